@@ -9,13 +9,17 @@
  *
  * Who owns what. The caller owns every buffer, and no call keeps one or hands one out: what a call allocates, it frees
  * before it returns. The caller owes this, which nothing checks:
- *   - no pointer is null, not even beside a length of 0, and as many bytes as are said stand there, fewer than 2^63;
- *   - what a call writes to (`out`, `needed`, what is found) overlaps nothing else that the call is handed;
+ *   - no pointer is null, not even beside a length of 0, and as many bytes as are said stand there, fewer than 2^63, at
+ *     a place that is aligned for their type;
+ *   - what a call writes to (`out`, `needed`, what is found) overlaps nothing else that the call is handed, and no other
+ *     thread reads or writes it before the call returns; what a call reads no thread writes before that, though others
+ *     may read it;
  *   - a `bool` is 0 or 1;
  *   - `malloc`, `realloc` and `free` are of one allocator, and align to 16 bytes; or else the program defines
- *     `rattle_alloc`, `rattle_realloc` and `rattle_dealloc` itself (bindings/c/arena.c);
+ *     `rattle_alloc`, `rattle_realloc` and `rattle_dealloc` itself, which are declared at the end;
+ *   - 32 KiB of stack are left; 2 to 10 were seen to be taken;
  *   - no call comes from a signal handler, or from the forked child of a process with threads.
- * Calls share nothing, so threads may call at once. */
+ * Calls share nothing, so threads may call at once. The archive is for Linux on x86-64. */
 #ifndef FUZSBANEL_H
 #define FUZSBANEL_H
 
@@ -66,7 +70,9 @@ int64_t fuzsbanel_check(const uint8_t *message, size_t len);
  * fuzsbanel_check does, and with 1 or 2 for a limit without room. */
 int64_t fuzsbanel_cut(const uint8_t *message, size_t len, uint16_t limit, uint8_t *out, size_t cap, size_t *needed);
 
-/* Writes the text of that message, a line for the header, each question and each record. Refuses as fuzsbanel_check. */
+/* Writes the text of that message: a line for the header, one for EDNS if there is any, and one for each question; of a
+ * response or an update also one for each section, and under it one for each record but a signature. Refuses as
+ * fuzsbanel_check does. */
 int64_t fuzsbanel_text(const uint8_t *message, size_t len, uint8_t *out, size_t cap, size_t *needed);
 
 /* The fields of a header (RFC 1035, 4.1.1; RFC 4035, 3.1.6). */
@@ -91,7 +97,11 @@ struct fuzsbanel_header {
  * the header isn't looked at. */
 int64_t fuzsbanel_header(const uint8_t *message, size_t len, struct fuzsbanel_header *header);
 
-/* ---- a message walked where it stands: nothing is copied, and places count from the first byte of `message` */
+/* ---- a message walked where it stands: no data is copied, and places count from the first byte of `message`
+ *
+ * fuzsbanel_walk tells at once of all questions and records, and costs what the message's bytes cost. The other calls
+ * tell of one place each, and know nothing of what was read before: of names by many pointers each follows them all
+ * again. */
 
 /* A question: the place of its name, QTYPE, and the class field with its top bit (RFC 1035, 4.1.2; RFC 6762, 5.4). */
 struct fuzsbanel_query {
@@ -118,6 +128,38 @@ struct fuzsbanel_option {
     uint16_t data_len;
 };
 
+/* A question or a record of a message that is walked whole: where it stands and its fields, where its name stands in
+ * wire form in `names` (RFC 1035, 3.1: each label after its length, and a zero byte), and its section. A question has a
+ * TTL of 0 and no data, at the place after it. */
+struct fuzsbanel_item {
+    struct fuzsbanel_record record;
+    size_t name;
+    uint8_t name_len;     /* 1 to 255 */
+    uint8_t section;
+};
+
+/* The sections of a message (RFC 1035, 4.1). */
+enum fuzsbanel_section {
+    FUZSBANEL_QUESTION = 0,
+    FUZSBANEL_ANSWER = 1,
+    FUZSBANEL_AUTHORITY = 2,
+    FUZSBANEL_ADDITIONAL = 3
+};
+
+/* How much a walk takes: how many items, and how many bytes of names. */
+struct fuzsbanel_room {
+    size_t items;
+    size_t names;
+};
+
+/* Walks the message that `message` begins with: fills in an item for each question and each record that its header
+ * counts, in their order, writes the names, and answers the place after the last. OPT records and signatures are records
+ * like others, wherever they stand. `items` has room for `items_len` items, `names` for `names_len` bytes; where either
+ * has too little, FUZSBANEL_NO_ROOM is answered. `*needed` is set as above; 255 bytes a name always suffice. Refuses with
+ * 4 to 8, and both stay. fuzsbanel_name reads a name of `names` as it does one of a message. */
+int64_t fuzsbanel_walk(const uint8_t *message, size_t len, struct fuzsbanel_item *items, size_t items_len,
+                       uint8_t *names, size_t names_len, struct fuzsbanel_room *needed);
+
 /* Finds the question at `place`, and answers the place after it. The first stands at 12, and each other one after the one
  * before; the header counts them. Refuses with 4 or 5, and `*query` stays. */
 int64_t fuzsbanel_query(const uint8_t *message, size_t len, size_t place, struct fuzsbanel_query *query);
@@ -130,8 +172,13 @@ int64_t fuzsbanel_record(const uint8_t *message, size_t len, size_t place, struc
  * `len` is where that data ends: `data + data_len`. Refuses with 4, and `*option` stays. */
 int64_t fuzsbanel_option(const uint8_t *message, size_t len, size_t place, struct fuzsbanel_option *option);
 
-/* Writes the text of the name at `place` (RFC 1035, 5.1): 1,005 bytes at most. Refuses with 4 or 5. */
+/* Writes the text of the name at `place` (RFC 1035, 5.1): 1,004 bytes at most. A name within the data of a record stands
+ * at a place like others. Refuses with 4 or 5. */
 int64_t fuzsbanel_name(const uint8_t *message, size_t len, size_t place, uint8_t *out, size_t cap, size_t *needed);
+
+/* Writes the text of the data of the record at `place`, as fuzsbanel_text has it: where its type has a text form, what
+ * stands for it in zone text (RFC 1035, 5.1). Refuses with 4 to 8. */
+int64_t fuzsbanel_data_text(const uint8_t *message, size_t len, size_t place, uint8_t *out, size_t cap, size_t *needed);
 
 /* ---- zone text (RFC 1035, 5.1), UTF-8
  *
@@ -186,6 +233,25 @@ int64_t fuzsbanel_delete_all(uint16_t id, const uint8_t *origin, size_t origin_l
  * origin, as `@ 300 SOA ns hostmaster 1 7200 3600 1209600 300`; an empty text asks for all. */
 int64_t fuzsbanel_zone_transfer(uint16_t id, const uint8_t *origin, size_t origin_len, const uint8_t *last_soa,
                                 size_t last_soa_len, uint8_t *out, size_t cap, size_t *needed);
+
+/* ---- memory
+ *
+ * What the library takes memory by. libfuzsbanel.a has them over `malloc`, `realloc` and `free`, and a program that
+ * defines all three itself links its own in their place (bindings/c/arena.c). `align` is a power of two up to 16. Where
+ * there is no memory, `ok` is false, `block` is still not null, and the old block stays. */
+struct rattle_block {
+    bool ok;
+    void *block;
+};
+
+/* A block of `size` bytes, aligned to `align`. */
+struct rattle_block rattle_alloc(size_t size, size_t align);
+
+/* The block with `size` bytes, whose first `kept` bytes are as they were. */
+struct rattle_block rattle_realloc(void *block, size_t kept, size_t size, size_t align);
+
+/* The block is free again. */
+void rattle_dealloc(void *block);
 
 #ifdef __cplusplus
 }

@@ -1,13 +1,7 @@
 /* The caller's own allocator: the library takes its memory from an arena of fixed size, and not from malloc. It asks for
- * three functions, which a program may define itself in the place of those that the toolchain has over malloc:
- *
- *   rattle_alloc(size, align)                 a block of so many bytes, aligned to `align`, a power of two up to 16
- *   rattle_realloc(block, kept, size, align)  the block with so many bytes, whose first `kept` bytes are as they were
- *   rattle_dealloc(block)                     the block is free again
- *
- * The first two answer whether there is memory, and the block; where there is none, a pointer that isn't null all the
- * same, and the old block stays. Here blocks are laid one after the other, the last one alone is given back, and all are
- * free when none is left, as after each call. */
+ * the three functions that stand at the end of fuzsbanel.h, which a program may define itself in the place of those that
+ * the archive has over malloc. Here blocks are laid one after the other, and all are free when none is left, as after each
+ * call. */
 #include "fuzsbanel.h"
 
 #include <inttypes.h>
@@ -16,36 +10,30 @@
 
 #define SIZE 4096
 
-struct tried {
-    bool ok;
-    void *block;
-};
-
-struct tried rattle_alloc(size_t size, size_t align);
-struct tried rattle_realloc(void *block, size_t kept, size_t size, size_t align);
-void rattle_dealloc(void *block);
-
 static _Alignas(16) unsigned char arena[SIZE];
 static unsigned char none;
 static size_t used, blocks, most;
+/* how many blocks are still given out */
+static size_t left = SIZE_MAX;
 
-struct tried rattle_alloc(size_t size, size_t align)
+struct rattle_block rattle_alloc(size_t size, size_t align)
 {
     size_t start = (used + align - 1) & ~(align - 1);
     if (size == 0)
         size = 1;
-    if (start > SIZE || size > SIZE - start)
-        return (struct tried){false, &none};
+    if (left == 0 || start > SIZE || size > SIZE - start)
+        return (struct rattle_block){false, &none};
     used = start + size;
+    left--;
     blocks++;
     if (used > most)
         most = used;
-    return (struct tried){true, arena + start};
+    return (struct rattle_block){true, arena + start};
 }
 
-struct tried rattle_realloc(void *block, size_t kept, size_t size, size_t align)
+struct rattle_block rattle_realloc(void *block, size_t kept, size_t size, size_t align)
 {
-    struct tried grown = rattle_alloc(size, align);
+    struct rattle_block grown = rattle_alloc(size, align);
     if (grown.ok) {
         memcpy(grown.block, block, kept < size ? kept : size);
         rattle_dealloc(block);
@@ -62,6 +50,27 @@ void rattle_dealloc(void *block)
 
 /* A question for the address of example. */
 static const uint8_t query[] = {0, 1, 1, 0, 0, 1, 0, 0, 0, 0, 0, 0, 7, 'e', 'x', 'a', 'm', 'p', 'l', 'e', 0, 0, 1, 0, 1};
+
+/* Whether a walk writes nothing where memory runs out, at each block in turn that it asks for. */
+static bool walk_is_all_or_nothing(void)
+{
+    struct fuzsbanel_item items[2];
+    uint8_t names[16];
+    struct fuzsbanel_room room;
+    int64_t answer;
+    bool holds = true;
+    size_t allowed = 0;
+    do {
+        memset(items, 0xA5, sizeof items);
+        memset(names, 0xA5, sizeof names);
+        left = allowed++;
+        answer = fuzsbanel_walk(query, sizeof query, items, 2, names, sizeof names, &room);
+        if (answer == -FUZSBANEL_MEMORY)
+            holds = holds && names[0] == 0xA5 && items[0].section == 0xA5 && room.items == 0 && blocks == 0;
+    } while (answer == -FUZSBANEL_MEMORY);
+    left = SIZE_MAX;
+    return holds && allowed > 1 && answer == (int64_t)sizeof query && room.items == 1 && room.names == 9;
+}
 
 int main(void)
 {
@@ -82,5 +91,7 @@ int main(void)
         len += (size_t)sprintf(zone + len, "h%d 300 A 192.0.2.%d\n", i, i);
     int64_t answer = fuzsbanel_zone((const uint8_t *)"example.", 8, (const uint8_t *)zone, len, out, sizeof out, &needed);
     printf("a large zone: %" PRId64 ", blocks left %zu\n", answer, blocks);
-    return answer == -FUZSBANEL_MEMORY && blocks == 0 ? 0 : 1;
+    bool walks = walk_is_all_or_nothing();
+    printf("a walk without memory writes nothing: %s\n", walks ? "yes" : "no");
+    return answer == -FUZSBANEL_MEMORY && blocks == 0 && walks ? 0 : 1;
 }

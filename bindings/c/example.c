@@ -7,8 +7,14 @@
 #include <string.h>
 
 #define ROOM 131072
+#define LONGEST_NAME 1004
+#define TYPE_MX 15
+#define TYPE_OPT 41
+/* more than stand in 65,536 bytes, of which a question takes 5 */
+#define ITEMS 16384
 
-static uint8_t message[65536], out[ROOM];
+static uint8_t message[65536], out[ROOM], names[255 * ITEMS];
+static struct fuzsbanel_item items[ITEMS];
 
 static size_t from_hexadecimal(const char *line)
 {
@@ -31,48 +37,72 @@ static void print_hexadecimal(const uint8_t *bytes, int64_t len)
     putchar('\n');
 }
 
-static void print_name(size_t len, size_t place)
+/* Prints the name at a place of these bytes: of the message, or of the names that a walk wrote. */
+static void print_name(const uint8_t *bytes, size_t len, size_t place)
 {
-    uint8_t name[1005];
+    uint8_t name[LONGEST_NAME];
     size_t needed;
-    int64_t answer = fuzsbanel_name(message, len, place, name, sizeof name, &needed);
+    int64_t answer = fuzsbanel_name(bytes, len, place, name, sizeof name, &needed);
     printf("%.*s", answer < 0 ? 0 : (int)answer, (const char *)name);
 }
 
-/* Prints the questions, the records, and the options of OPT records, by their places. */
-static void walk(size_t len)
+static void print_question(size_t len, const struct fuzsbanel_item *item)
 {
-    struct fuzsbanel_header header;
     struct fuzsbanel_query query;
-    struct fuzsbanel_record record;
-    struct fuzsbanel_option option;
-    int64_t place = fuzsbanel_header(message, len, &header);
+    printf("question ");
+    print_name(names, sizeof names, item->name);
+    printf(" type %u class %u\n", item->record.record_type, item->record.class_);
+    if (fuzsbanel_query(message, len, item->record.name, &query) != (int64_t)item->record.data
+        || query.query_type != item->record.record_type || query.class_ != item->record.class_)
+        printf("not found alone\n");
+}
 
-    for (unsigned i = 0; place >= 0 && i < header.queries; i++) {
-        place = fuzsbanel_query(message, len, (size_t)place, &query);
-        if (place >= 0) {
-            printf("question ");
-            print_name(len, query.name);
-            printf(" type %u class %u\n", query.query_type, query.class_);
-        }
-    }
-    unsigned records = (unsigned)header.answers + header.authorities + header.additionals;
-    for (unsigned i = 0; place >= 0 && i < records; i++) {
-        place = fuzsbanel_record(message, len, (size_t)place, &record);
-        if (place < 0)
-            break;
-        printf("record ");
-        print_name(len, record.name);
-        printf(" type %u class %u ttl %" PRIu32 " data ", record.record_type, record.class_, record.ttl);
-        print_hexadecimal(message + record.data, record.data_len);
-        size_t end = record.data + record.data_len;
-        for (int64_t at = (int64_t)record.data; record.record_type == 41 && at >= 0 && (size_t)at < end;) {
+/* Prints a record, the text of its data, and where a name stands within it. */
+static void print_record(size_t len, const struct fuzsbanel_item *item)
+{
+    const struct fuzsbanel_record *record = &item->record;
+    struct fuzsbanel_record alone;
+    struct fuzsbanel_option option;
+    size_t needed, end = record->data + record->data_len;
+    printf("record ");
+    print_name(names, sizeof names, item->name);
+    printf(" type %u class %u ttl %" PRIu32 " data ", record->record_type, record->class_, record->ttl);
+    print_hexadecimal(message + record->data, record->data_len);
+    if (fuzsbanel_record(message, len, record->name, &alone) != (int64_t)end || alone.data != record->data
+        || alone.ttl != record->ttl)
+        printf("not found alone\n");
+    if (record->record_type == TYPE_OPT) {
+        for (int64_t at = (int64_t)record->data; at >= 0 && (size_t)at < end;) {
             at = fuzsbanel_option(message, end, (size_t)at, &option);
             if (at >= 0) {
                 printf("option %u ", option.code);
                 print_hexadecimal(message + option.data, option.data_len);
             }
         }
+        return;
+    }
+    int64_t text = fuzsbanel_data_text(message, len, record->name, out, sizeof out, &needed);
+    printf("text %.*s\n", text < 0 ? 0 : (int)text, (const char *)out);
+    if (record->record_type == TYPE_MX) {
+        printf("exchange ");
+        print_name(message, len, record->data + 2);
+        putchar('\n');
+    }
+}
+
+/* Prints the questions, the records, and the options of OPT records. */
+static void walk(size_t len)
+{
+    struct fuzsbanel_room needed;
+    struct fuzsbanel_header header;
+    int64_t end = fuzsbanel_walk(message, len, items, ITEMS, names, sizeof names, &needed);
+    if (end < 0 || fuzsbanel_header(message, len, &header) != 12)
+        return;
+    for (size_t i = 0; i < needed.items; i++) {
+        if (i < header.queries)
+            print_question(len, &items[i]);
+        else
+            print_record(len, &items[i]);
     }
 }
 

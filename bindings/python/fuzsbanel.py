@@ -19,23 +19,53 @@ bindings/c/build, or the one that FUZSBANEL_LIB names.
     $ORIGIN example.
     www.example. 300 IN A 192.0.2.1
 
+The data of a record has a place, a text, and names, which may be compressed; each is read at its own place:
+
+    >>> response = bytes.fromhex(
+    ...     "000981800001000100000000076578616d706c6500000f0001c00c000f00010000012c0009000a046d61696cc00c")
+    >>> [record] = fuzsbanel.records(response)
+    >>> fuzsbanel.data_text(response, record.name)
+    '10 mail.example.'
+    >>> fuzsbanel.name(response, record.data_place + 2)
+    'mail.example.'
+    >>> fuzsbanel.name(record.owner, 0)
+    'example.'
+
 As a program it reads messages in hexadecimal, one a line, and prints what each call makes of them.
 """
 import ctypes
+import operator
 import os
 import sys
-from typing import Iterator, NamedTuple
+from typing import Iterator, NamedTuple, Tuple, Union
 
 __all__ = [
     "EdnsOption", "Header", "Query", "Record", "Refusal", "append", "apply", "check", "compare_and_swap", "create", "cut",
-    "delete_all", "delete_by_rdata", "delete_rrset", "header", "name", "options", "queries", "records", "text", "zone",
-    "zone_transfer",
+    "data_text", "delete_all", "delete_by_rdata", "delete_rrset", "header", "name", "options", "queries", "query", "record",
+    "records", "text", "walk", "zone", "zone_transfer",
 ]
 
-HERE = os.path.dirname(os.path.realpath(__file__))
-LIBRARY = ctypes.CDLL(os.environ.get("FUZSBANEL_LIB", os.path.join(HERE, "../c/build/libfuzsbanel.so")))
+BUILT = os.path.normpath(os.path.join(os.path.dirname(os.path.realpath(__file__)), "../c/build/libfuzsbanel.so"))
+
+
+def loaded(path: str) -> ctypes.CDLL:
+    """The shared object at a path.
+
+    >>> loaded("/nowhere.so")
+    Traceback (most recent call last):
+    ...
+    ImportError: no /nowhere.so: run `rt lib` in crates/capi and then `make -C bindings/c`, or name it by FUZSBANEL_LIB
+    """
+    if not os.path.exists(path):
+        raise ImportError(f"no {path}: run `rt lib` in crates/capi and then `make -C bindings/c`, or name it by FUZSBANEL_LIB")
+    return ctypes.CDLL(path)
+
+
+LIBRARY = loaded(os.environ.get("FUZSBANEL_LIB", BUILT))
 
 NO_ROOM = -100
+LONGEST_NAME = 1004
+TYPE_MX, TYPE_OPT = 15, 41
 NAMES = {
     1: "the limit has no room for the header",
     2: "the limit has no room for the questions",
@@ -62,11 +92,21 @@ NAMES = {
 
 
 class Refusal(Exception):
-    """A call has no answer: `number` is that of docs/REFUSALS.md."""
+    """A call has no answer: `number` is that of docs/REFUSALS.md.
+
+    >>> import pickle
+    >>> pickle.loads(pickle.dumps(Refusal(19)))
+    Refusal(19)
+    >>> print(pickle.loads(pickle.dumps(Refusal(19))))
+    19: an entry that can't be carried out
+    """
 
     def __init__(self, number: int) -> None:
-        super().__init__(f"{number}: {NAMES.get(number, 'refused')}")
+        super().__init__(number)
         self.number = number
+
+    def __str__(self) -> str:
+        return f"{self.number}: {NAMES.get(self.number, 'refused')}"
 
 
 class HeaderFields(ctypes.Structure):
@@ -103,6 +143,19 @@ class RecordFields(ctypes.Structure):
     ]
 
 
+class ItemFields(ctypes.Structure):
+    _fields_ = [
+        ("record", RecordFields),
+        ("name", ctypes.c_size_t),
+        ("name_len", ctypes.c_uint8),
+        ("section", ctypes.c_uint8),
+    ]
+
+
+class Room(ctypes.Structure):
+    _fields_ = [("items", ctypes.c_size_t), ("names", ctypes.c_size_t)]
+
+
 class OptionFields(ctypes.Structure):
     _fields_ = [("data", ctypes.c_size_t), ("code", ctypes.c_uint16), ("data_len", ctypes.c_uint16)]
 
@@ -127,21 +180,28 @@ class Header(NamedTuple):
 
 
 class Query(NamedTuple):
-    """A question: the place of its name, QTYPE, and the class field (RFC 1035, 4.1.2)."""
+    """A question: the place of its name, where it begins, QTYPE, and the class field (RFC 1035, 4.1.2). `owner` is that
+    name in wire form, empty where the question was found alone."""
 
     name: int
     query_type: int
     class_: int
+    owner: bytes = b""
 
 
 class Record(NamedTuple):
-    """A record: the place of its owner, type, class field, TTL in seconds, and data as it stands (RFC 1035, 4.1.3)."""
+    """A record: the place of its owner, where it begins, type, class field, TTL in seconds, and data as it stands (RFC
+    1035, 4.1.3), and the place of that. `section` is 1 for answers, 2 for authorities and 3 for additional records, and
+    `owner` the owner in wire form; 0 and empty where the record was found alone."""
 
     name: int
     record_type: int
     class_: int
     ttl: int
     data: bytes
+    data_place: int
+    section: int = 0
+    owner: bytes = b""
 
 
 class EdnsOption(NamedTuple):
@@ -151,29 +211,31 @@ class EdnsOption(NamedTuple):
     data: bytes
 
 
+def number(value: int, type_: type) -> int:
+    """A number that a type holds, where ctypes would drop the upper bits of any other.
 
-class Number:
-    """A number as it crosses. One that its type doesn't hold ends the call, where ctypes would drop its upper bits.
-
-    >>> cut(bytes(12), -1)  # doctest: +IGNORE_EXCEPTION_DETAIL
+    >>> cut(bytes(12), -1)
     Traceback (most recent call last):
     ...
-    ctypes.ArgumentError: argument 3: OverflowError: -1 is no number of 16 bits
+    ValueError: -1 is no number of 16 bits
+    >>> cut(bytes(12), 65536)
+    Traceback (most recent call last):
+    ...
+    ValueError: 65536 is no number of 16 bits
+    >>> create(-1, "example.", "www 300 A 192.0.2.1")
+    Traceback (most recent call last):
+    ...
+    ValueError: -1 is no number of 16 bits
     """
-
-    def __init__(self, type_: type) -> None:
-        self.type = type_
-
-    def from_param(self, number: int):
-        crossing = self.type(number)
-        if crossing.value != number:
-            raise OverflowError(f"{number} is no number of {8 * ctypes.sizeof(self.type)} bits")
-        return crossing
+    bits = 8 * ctypes.sizeof(type_)
+    if not 0 <= operator.index(value) < 1 << bits:
+        raise ValueError(f"{value} is no number of {bits} bits")
+    return value
 
 
 BYTES = [ctypes.c_char_p, ctypes.c_size_t]
 OUT = [ctypes.c_char_p, ctypes.c_size_t, ctypes.POINTER(ctypes.c_size_t)]
-U16, EDNS, PLACE = [Number(ctypes.c_uint16)], [ctypes.c_bool], [Number(ctypes.c_size_t)]
+U16, EDNS, PLACE = [ctypes.c_uint16], [ctypes.c_bool], [ctypes.c_size_t]
 CALLS = {
     "check": BYTES,
     "cut": BYTES + U16 + OUT,
@@ -183,6 +245,8 @@ CALLS = {
     "record": BYTES + PLACE + [ctypes.POINTER(RecordFields)],
     "option": BYTES + PLACE + [ctypes.POINTER(OptionFields)],
     "name": BYTES + PLACE + OUT,
+    "data_text": BYTES + PLACE + OUT,
+    "walk": BYTES + [ctypes.POINTER(ItemFields)] + PLACE + BYTES + [ctypes.POINTER(Room)],
     "zone": BYTES + BYTES + OUT,
     "apply": BYTES + BYTES + BYTES + OUT,
     "create": U16 + BYTES + BYTES + EDNS + OUT,
@@ -199,15 +263,23 @@ for word, types in CALLS.items():
 
 
 def asked(word, *arguments) -> int:
-    """The length or the place that a call answers; bytes and texts cross as a pointer and a length."""
+    """The length or the place that a call answers; bytes and texts cross as a pointer and a length.
+
+    >>> check(memoryview(bytes.fromhex("00010100000100000000000001610000010001") + b"!").cast("H"))
+    19
+    """
     crossing = []
     for argument in arguments:
         if isinstance(argument, str):
             argument = argument.encode()
         if isinstance(argument, (bytes, bytearray, memoryview)):
-            crossing += [bytes(argument), len(argument)]
+            held = bytes(argument)
+            crossing += [held, len(held)]
         else:
             crossing.append(argument)
+    for value, type_ in zip(crossing, CALLS[word]):
+        if type_ in (ctypes.c_uint16, ctypes.c_size_t):
+            number(value, type_)
     answer = getattr(LIBRARY, "fuzsbanel_" + word)(*crossing)
     if answer < 0 and answer != NO_ROOM:
         raise Refusal(-answer)
@@ -232,7 +304,7 @@ def check(message: bytes) -> int:
 
 def cut(message: bytes, limit: int) -> bytes:
     """The message that the bytes begin with, in at most `limit` bytes, up to 65,535."""
-    return filled(limit, "cut", message, limit)
+    return filled(number(limit, ctypes.c_uint16), "cut", message, limit)
 
 
 def text(message: bytes) -> str:
@@ -248,41 +320,82 @@ def header(message: bytes) -> Header:
 
 
 def name(message: bytes, place: int) -> str:
-    """The text of the name at a place of the message."""
-    return filled(1005, "name", message, place).decode()
+    """The text of the name at a place of the message; of a name in wire form, that at place 0."""
+    return filled(LONGEST_NAME, "name", message, place).decode()
 
 
-def walked(message: bytes) -> Iterator[tuple]:
-    """The questions that the header counts, each with the place after it."""
-    fields, place = QueryFields(), 12
-    for _ in range(header(message).queries):
-        place = asked("query", message, place, ctypes.byref(fields))
-        yield Query(fields.name, fields.query_type, fields.class_), place
+def data_text(message: bytes, place: int) -> str:
+    """The text of the data of the record at a place of the message."""
+    return filled(LONGEST_NAME, "data_text", message, place).decode()
+
+
+def query(message: bytes, place: int) -> Tuple[Query, int]:
+    """The question at a place of the message, and the place after it; the first stands at 12."""
+    fields = QueryFields()
+    end = asked("query", message, place, ctypes.byref(fields))
+    return Query(fields.name, fields.query_type, fields.class_), end
+
+
+def record_of(message: bytes, fields: RecordFields, *more) -> Record:
+    data = message[fields.data:fields.data + fields.data_len]
+    return Record(fields.name, fields.record_type, fields.class_, fields.ttl, data, fields.data, *more)
+
+
+def record(message: bytes, place: int) -> Tuple[Record, int]:
+    """The record at a place of the message, and the place after it; the first stands after the last question."""
+    message, fields = bytes(message), RecordFields()
+    end = asked("record", message, place, ctypes.byref(fields))
+    return record_of(message, fields), end
+
+
+def walk(message: bytes) -> Iterator[Union[Query, Record]]:
+    """The questions and the records of all sections that the header counts, one after the other, OPT and TSIG among them,
+    each with its name in wire form. The message is read whole before the first is given, and refused by its first fault.
+
+    >>> response = bytes.fromhex("00098080000000000000000100002904d0000000000006000300026162")
+    >>> [opt] = walk(response)
+    >>> opt.section, opt.class_, list(options(opt.data))
+    (3, 1232, [EdnsOption(code=3, data=b'ab')])
+    >>> [found, place] = record(response, 12)
+    >>> found == opt._replace(section=0, owner=b""), place == len(response)
+    (True, True)
+    >>> list(walk(response[:20]))
+    Traceback (most recent call last):
+    ...
+    fuzsbanel.Refusal: 4: the bytes end inside a field, or before the place
+    """
+    message, room = bytes(message), Room()
+    while True:
+        items = (ItemFields * room.items)()
+        names = ctypes.create_string_buffer(room.names + 1)
+        counted = room.items, names, room.names
+        if asked("walk", message, items, *counted, ctypes.byref(room)) != NO_ROOM:
+            break
+    held = names.raw
+    for item in items:
+        owner = held[item.name:item.name + item.name_len]
+        if item.section == 0:
+            yield Query(item.record.name, item.record.record_type, item.record.class_, owner)
+        else:
+            yield record_of(message, item.record, item.section, owner)
 
 
 def queries(message: bytes) -> Iterator[Query]:
-    """The questions that the header counts."""
-    return (query for query, _ in walked(message))
+    """The questions that the header counts, as `walk` has them."""
+    return (item for item in walk(message) if isinstance(item, Query))
 
 
 def records(message: bytes) -> Iterator[Record]:
-    """The records of all sections that the header counts, one after the other, OPT and TSIG among them."""
-    place = 12
-    for _, place in walked(message):
-        pass
-    fields, counts = RecordFields(), header(message)
-    for _ in range(counts.answers + counts.authorities + counts.additionals):
-        place = asked("record", message, place, ctypes.byref(fields))
-        data = bytes(message[fields.data:fields.data + fields.data_len])
-        yield Record(fields.name, fields.record_type, fields.class_, fields.ttl, data)
+    """The records of all sections that the header counts, as `walk` has them."""
+    return (item for item in walk(message) if isinstance(item, Record))
 
 
 def options(data: bytes) -> Iterator[EdnsOption]:
     """The options in the data of an OPT record."""
-    fields, place = OptionFields(), 0
+    data, fields, place = bytes(data), OptionFields(), 0
     while place < len(data):
         place = asked("option", data, place, ctypes.byref(fields))
-        yield EdnsOption(fields.code, bytes(data[fields.data:fields.data + fields.data_len]))
+        yield EdnsOption(fields.code, data[fields.data:fields.data + fields.data_len])
 
 
 def zone(origin: str, zone_text: str) -> str:
@@ -334,14 +447,65 @@ def show(message: bytes) -> None:
     """Prints what each call makes of a message."""
     end = check(message)
     print(text(message), end="")
-    for query in queries(message):
-        print("question", name(message, query.name), "type", query.query_type, "class", query.class_)
-    for record in records(message):
-        owner = name(message, record.name)
-        print("record", owner, "type", record.record_type, "class", record.class_, "ttl", record.ttl, "data", record.data.hex())
-        for option in options(record.data) if record.record_type == 41 else ():
-            print("option", option.code, option.data.hex())
+    for item in walk(message):
+        owner = name(item.owner, 0)
+        if isinstance(item, Query):
+            print("question", owner, "type", item.query_type, "class", item.class_)
+            continue
+        print("record", owner, "type", item.record_type, "class", item.class_, "ttl", item.ttl, "data", item.data.hex())
+        if item.record_type == TYPE_OPT:
+            for option in options(item.data):
+                print("option", option.code, option.data.hex())
+            continue
+        print("text", data_text(message, item.name))
+        if item.record_type == TYPE_MX:
+            print("exchange", name(message, item.data_place + 2))
     print(cut(message[:end], 512).hex())
+
+
+# what no comment above calls
+__test__ = {
+    "messages": """
+    >>> message = bytes.fromhex("000981800001000100000000076578616d706c6500000f0001c00c000f00010000012c0009000a046d61696cc00c")
+    >>> told = header(message)
+    >>> told.id, told.queries, told.answers, told.response, told.recursion_desired, told.truncated
+    (9, 1, 1, True, True, False)
+    >>> query(message, 12) == (Query(12, 15, 1), 25)
+    True
+    >>> [name(found.owner, 0) for found in queries(message)]
+    ['example.']
+    >>> text(message).splitlines()[4]
+    'example. 300 IN MX 10 mail.example.'
+    >>> name(message, 47)
+    Traceback (most recent call last):
+    ...
+    fuzsbanel.Refusal: 4: the bytes end inside a field, or before the place
+    """,
+    "updates": """
+    >>> www = "www 300 A 192.0.2.2"
+    >>> empty = "@ 300 SOA ns hostmaster 1 2 3 4 5\\n"
+    >>> filled_zone = empty + www
+    >>> def after(update, zone_text):
+    ...     lines = apply(update, "example.", zone_text).splitlines()
+    ...     return lines[:1] + lines[3:]
+    >>> after(create(1, "example.", www), empty)
+    ['NoError', 'www.example. 300 IN A 192.0.2.2']
+    >>> after(create(1, "example.", www, use_edns=True), filled_zone)
+    ['YXRRSet', 'www.example. 300 IN A 192.0.2.2']
+    >>> after(append(2, "example.", "www 300 A 192.0.2.3", must_exist=True), filled_zone)
+    ['NoError', 'www.example. 300 IN A 192.0.2.2', 'www.example. 300 IN A 192.0.2.3']
+    >>> after(compare_and_swap(3, "example.", www, "www 9 A 192.0.2.4"), filled_zone)
+    ['NoError', 'www.example. 9 IN A 192.0.2.4']
+    >>> after(delete_by_rdata(4, "example.", www), filled_zone)
+    ['NoError']
+    >>> after(delete_rrset(5, "example.", "www", 1), filled_zone)
+    ['NoError']
+    >>> after(delete_all(6, "example.", "www.example."), filled_zone)
+    ['NoError']
+    >>> zone_transfer(7, "example.").hex()
+    '000700000001000000000001076578616d706c650000fc000100002904d0000000000000'
+    """,
+}
 
 
 def main() -> None:

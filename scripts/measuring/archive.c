@@ -1,5 +1,5 @@
 /* Calls the library for C on the message on its input again and again, so that the cost can be counted:
- * `archive check|walk|cut TIMES`. Prints the sum of what was answered. */
+ * `archive check|walk|whole|cut TIMES`. Prints the sum of what was answered. */
 #include "fuzsbanel.h"
 
 #include <inttypes.h>
@@ -10,7 +10,11 @@
 /* What a client takes that doesn't say. */
 #define LIMIT 512
 
-static uint8_t message[65536];
+/* more than stand in 65,536 bytes, of which a question takes 5 */
+#define ITEMS 16384
+
+static uint8_t message[65536], names[255 * ITEMS];
+static struct fuzsbanel_item items[ITEMS];
 
 /* Finds each question and record, and answers the place after them; or what refuses. */
 static int64_t walk(size_t len)
@@ -25,6 +29,13 @@ static int64_t walk(size_t len)
     for (unsigned i = 0; place >= 0 && i < records; i++)
         place = fuzsbanel_record(message, len, (size_t)place, &record);
     return place;
+}
+
+/* The same by one call, which tells each one's name too. */
+static int64_t whole(size_t len)
+{
+    struct fuzsbanel_room needed;
+    return fuzsbanel_walk(message, len, items, ITEMS, names, sizeof names, &needed);
 }
 
 static int64_t cut(size_t len)
@@ -45,6 +56,8 @@ int main(int argc, char **argv)
             sum += fuzsbanel_check(message, len);
         else if (strcmp(argv[1], "walk") == 0)
             sum += walk(len);
+        else if (strcmp(argv[1], "whole") == 0)
+            sum += whole(len);
         else
             sum += cut(len);
     }

@@ -1,6 +1,9 @@
 """Messages to be measured: ordinary ones, pointers that chain, and owners that share nothing."""
 import struct
 
+# a type whose data is any bytes (RFC 1035, 3.3.10)
+NULL = 10
+
 
 def name(text, at=None, places=None):
     """A name by labels, its first suffix that `places` knows as a pointer; `places` takes in the others."""
@@ -225,9 +228,25 @@ def siblings(size):
     return questions(size, lambda i, at: bytes([8]) + f"h{i:07}".encode() + name("example.com"))
 
 
+def chain_in_data(size):
+    """Data that is a chain of pointers, as long as a pointer can reach, and then records whose owner is its end."""
+    record = lambda owner, data: owner + struct.pack(">HHIH", NULL, 1, 0, len(data)) + data
+    start = 12 + len(record(b"\0", b""))
+    chain = (16384 - start - 1) // 2
+    data = b"\0" + b"".join(struct.pack(">H", 0xC000 + (start + 2 * i - 1 if i else start)) for i in range(chain))
+    other = record(struct.pack(">H", 0xC000 + start + 2 * chain - 1), b"x")
+    body = record(b"\0", data)
+    others = (size - 1 - 12 - len(body)) // len(other)
+    return struct.pack(">HH4H", 0x1234, 0x8000, 0, 1 + others, 0, 0) + body + others * other
+
+
 ORDINARY = [small_query, edns, answer_cname, answer30, referral, dnssec_answer, txt_heavy, update, many_questions]
 GROWING = [(chained, (16, 32, 64)), (chained_8_, (64,)), (chained_16_, (64,)), (bare, (16, 32, 64)), (plain, (16, 32, 64))]
 GROWING += [(single, (16, 32, 64)), (owners, (4, 8, 16)), (siblings, (4, 8, 16))]
+
+
+# a worst case for calls that know nothing of what was read before
+ALONE = [(chain_in_data, (18, 64))]
 
 
 def all_messages():
@@ -237,3 +256,6 @@ def all_messages():
     for make, sizes in GROWING:
         for size in sizes:
             yield f"{make.__name__}{size}", make(size * 1024), 2
+    for make, sizes in ALONE:
+        for size in sizes:
+            yield f"{make.__name__}{size}", make(size * 1024), 1

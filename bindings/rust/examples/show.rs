@@ -3,6 +3,9 @@
 use fuzsbanel::Error;
 use std::io::{self, BufRead};
 
+const TYPE_MX: u16 = 15;
+const TYPE_OPT: u16 = 41;
+
 fn main() {
     for line in io::stdin().lock().lines() {
         let line = line.expect("a line of text");
@@ -15,24 +18,35 @@ fn main() {
 fn show(message: &[u8]) -> Result<(), Error> {
     fuzsbanel::check(message)?;
     print!("{}", fuzsbanel::text(message)?);
-    for query in fuzsbanel::queries(message)? {
-        let name = fuzsbanel::name(message, query.name)?;
+    let walk = fuzsbanel::walk(message)?;
+    for (query, name) in walk.queries() {
         println!(
-            "question {name} type {} class {}",
-            query.query_type, query.class
+            "question {} type {} class {}",
+            fuzsbanel::name(name, 0)?,
+            query.query_type,
+            query.class
         );
     }
-    for record in fuzsbanel::records(message)? {
-        let name = fuzsbanel::name(message, record.name)?;
+    for (_section, record, owner) in walk.records() {
+        let name = fuzsbanel::name(owner, 0)?;
         let (record_type, class, ttl) = (record.record_type, record.class, record.ttl);
         println!(
             "record {name} type {record_type} class {class} ttl {ttl} data {}",
             hexadecimal(record.data)
         );
-        if record_type == 41 {
-            for option in fuzsbanel::options(record.data)? {
+        if record_type == TYPE_OPT {
+            for option in fuzsbanel::options(record.data) {
+                let option = option?;
                 println!("option {} {}", option.code, hexadecimal(option.data));
             }
+            continue;
+        }
+        println!("text {}", fuzsbanel::data_text(message, record.name)?);
+        if record_type == TYPE_MX {
+            println!(
+                "exchange {}",
+                fuzsbanel::name(message, record.data_place + 2)?
+            );
         }
     }
     println!("{}", hexadecimal(&fuzsbanel::cut(message, 512)?));

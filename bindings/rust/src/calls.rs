@@ -1,10 +1,10 @@
 //! The declarations of `include/fuzsbanel.h`, and what each call's answer means.
 
 use crate::error::Error;
-use crate::walk::{Header, OptionFound, QueryFound, RecordFound};
+use crate::walk::{Header, ItemFound, OptionFound, QueryFound, RecordFound, Room};
 
 /// What is answered where the buffer has no room.
-const NO_ROOM: i64 = -100;
+pub const NO_ROOM: i64 = -100;
 
 // A `&[u8]` crosses as a pointer and then a length. Nothing compares these declarations with those of crates/capi.
 extern "C" {
@@ -50,6 +50,23 @@ extern "C" {
         out: *mut u8,
         cap: usize,
         needed: *mut usize,
+    ) -> i64;
+    pub fn fuzsbanel_data_text(
+        message: *const u8,
+        len: usize,
+        place: usize,
+        out: *mut u8,
+        cap: usize,
+        needed: *mut usize,
+    ) -> i64;
+    pub fn fuzsbanel_walk(
+        message: *const u8,
+        len: usize,
+        items: *mut ItemFound,
+        items_len: usize,
+        names: *mut u8,
+        names_len: usize,
+        needed: *mut Room,
     ) -> i64;
     pub fn fuzsbanel_zone(
         origin: *const u8,

@@ -22,7 +22,10 @@ pub use error::Error;
 pub use update::{
     append, compare_and_swap, create, delete_all, delete_by_rdata, delete_rrset, zone_transfer,
 };
-pub use walk::{header, name, options, queries, records, EdnsOption, Header, Query, Record};
+pub use walk::{
+    data_text, header, name, options, queries, query, record, records, walk, EdnsOption, Header,
+    Options, Query, Record, Section, Walk,
+};
 
 use calls::filled;
 

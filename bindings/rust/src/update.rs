@@ -9,28 +9,23 @@ use crate::error::Error;
 /// How many bytes most updates fit in.
 const ROOM: usize = 512;
 
+/// The bytes that a builder of an update writes, of these texts and what comes after them.
+macro_rules! built {
+    ($call:ident, $id:expr, [$($text:expr),*], $($word:expr),*) => {
+        filled(ROOM, |out, cap, needed| {
+            // SAFETY: `filled` hands in a buffer of its own, and the texts are borrowed for the call.
+            unsafe { calls::$call($id, $($text.as_ptr(), $text.len(),)* $($word,)* out, cap, needed) }
+        })
+    };
+}
+
 /// Creates a set, if the zone has none of that owner and type (2.4.3).
 ///
 /// # Errors
 ///
 /// The first fault of the texts; [`Error::Input`] for what isn't one set in the zone.
 pub fn create(id: u16, origin: &str, set: &str, use_edns: bool) -> Result<Vec<u8>, Error> {
-    filled(ROOM, |out, cap, needed| {
-        // SAFETY: `filled` hands in a buffer of its own, and the rest is of slices that are borrowed for the call.
-        unsafe {
-            calls::fuzsbanel_create(
-                id,
-                origin.as_ptr(),
-                origin.len(),
-                set.as_ptr(),
-                set.len(),
-                use_edns,
-                out,
-                cap,
-                needed,
-            )
-        }
-    })
+    built!(fuzsbanel_create, id, [origin, set], use_edns)
 }
 
 /// Adds records to a set; with `must_exist`, if the zone has one of that owner and type (2.4.1).
@@ -45,23 +40,7 @@ pub fn append(
     must_exist: bool,
     use_edns: bool,
 ) -> Result<Vec<u8>, Error> {
-    filled(ROOM, |out, cap, needed| {
-        // SAFETY: as in `create`.
-        unsafe {
-            calls::fuzsbanel_append(
-                id,
-                origin.as_ptr(),
-                origin.len(),
-                set.as_ptr(),
-                set.len(),
-                must_exist,
-                use_edns,
-                out,
-                cap,
-                needed,
-            )
-        }
-    })
+    built!(fuzsbanel_append, id, [origin, set], must_exist, use_edns)
 }
 
 /// Puts a set in the place of another, if the zone has exactly that (2.4.2).
@@ -76,24 +55,12 @@ pub fn compare_and_swap(
     next: &str,
     use_edns: bool,
 ) -> Result<Vec<u8>, Error> {
-    filled(ROOM, |out, cap, needed| {
-        // SAFETY: as in `create`.
-        unsafe {
-            calls::fuzsbanel_compare_and_swap(
-                id,
-                origin.as_ptr(),
-                origin.len(),
-                current.as_ptr(),
-                current.len(),
-                next.as_ptr(),
-                next.len(),
-                use_edns,
-                out,
-                cap,
-                needed,
-            )
-        }
-    })
+    built!(
+        fuzsbanel_compare_and_swap,
+        id,
+        [origin, current, next],
+        use_edns
+    )
 }
 
 /// Takes the data of a set out of the zone (2.5.4).
@@ -102,22 +69,7 @@ pub fn compare_and_swap(
 ///
 /// Those of [`create`].
 pub fn delete_by_rdata(id: u16, origin: &str, set: &str, use_edns: bool) -> Result<Vec<u8>, Error> {
-    filled(ROOM, |out, cap, needed| {
-        // SAFETY: as in `create`.
-        unsafe {
-            calls::fuzsbanel_delete_by_rdata(
-                id,
-                origin.as_ptr(),
-                origin.len(),
-                set.as_ptr(),
-                set.len(),
-                use_edns,
-                out,
-                cap,
-                needed,
-            )
-        }
-    })
+    built!(fuzsbanel_delete_by_rdata, id, [origin, set], use_edns)
 }
 
 /// Takes the set of an owner and a type out of the zone (2.5.2). A relative owner ends in the origin.
@@ -132,23 +84,13 @@ pub fn delete_rrset(
     record_type: u16,
     use_edns: bool,
 ) -> Result<Vec<u8>, Error> {
-    filled(ROOM, |out, cap, needed| {
-        // SAFETY: as in `create`.
-        unsafe {
-            calls::fuzsbanel_delete_rrset(
-                id,
-                origin.as_ptr(),
-                origin.len(),
-                owner.as_ptr(),
-                owner.len(),
-                record_type,
-                use_edns,
-                out,
-                cap,
-                needed,
-            )
-        }
-    })
+    built!(
+        fuzsbanel_delete_rrset,
+        id,
+        [origin, owner],
+        record_type,
+        use_edns
+    )
 }
 
 /// Takes all sets of an owner out of the zone; at the origin SOA and NS stay (2.5.3).
@@ -157,22 +99,7 @@ pub fn delete_rrset(
 ///
 /// Those of [`delete_rrset`].
 pub fn delete_all(id: u16, origin: &str, owner: &str, use_edns: bool) -> Result<Vec<u8>, Error> {
-    filled(ROOM, |out, cap, needed| {
-        // SAFETY: as in `create`.
-        unsafe {
-            calls::fuzsbanel_delete_all(
-                id,
-                origin.as_ptr(),
-                origin.len(),
-                owner.as_ptr(),
-                owner.len(),
-                use_edns,
-                out,
-                cap,
-                needed,
-            )
-        }
-    })
+    built!(fuzsbanel_delete_all, id, [origin, owner], use_edns)
 }
 
 /// Asks for all of a zone (RFC 5936, 2.1), or for what changed since an SOA (RFC 1995, 3), which is zone text of one
@@ -187,19 +114,5 @@ pub fn zone_transfer(id: u16, origin: &str, last_soa: Option<&str>) -> Result<Ve
     if last_soa.is_some() && last.is_empty() {
         return Err(Error::Input);
     }
-    filled(ROOM, |out, cap, needed| {
-        // SAFETY: as in `create`.
-        unsafe {
-            calls::fuzsbanel_zone_transfer(
-                id,
-                origin.as_ptr(),
-                origin.len(),
-                last.as_ptr(),
-                last.len(),
-                out,
-                cap,
-                needed,
-            )
-        }
-    })
+    built!(fuzsbanel_zone_transfer, id, [origin, last],)
 }

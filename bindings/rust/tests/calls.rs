@@ -1,6 +1,7 @@
 //! Each call of the crate.
 
-use fuzsbanel::{Error, Query};
+use fuzsbanel::{Error, Query, Section};
+use std::time::Instant;
 
 const RESPONSE: &[u8] =
     b"\x10\x00\x81\x80\0\x01\0\x01\0\0\0\0\x03www\x07example\x03com\0\0\x01\0\x01\
@@ -58,12 +59,105 @@ fn a_message_is_walked() {
         Ok("www.example.com.")
     );
     assert_eq!(fuzsbanel::name(RESPONSE, 50), Err(Error::Short));
-    let options = fuzsbanel::options(b"\0\x0a\0\x02ab\0\x03\0\0").unwrap();
+    let options: Vec<_> = fuzsbanel::options(b"\0\x0a\0\x02ab\0\x03\0\0")
+        .map(|option| option.map(|option| (option.code, option.data)))
+        .collect();
+    assert_eq!(options, [Ok((10, &b"ab"[..])), Ok((3, &b""[..]))]);
+    let options: Vec<_> = fuzsbanel::options(b"\0\x0a\0\x02a").collect();
+    assert_eq!(options, [Err(Error::Short)]);
+}
+
+// RFC 1035, 4.1.4 and 3.3.9: the exchange is a label before a pointer to the question's name
+const EXCHANGE: &[u8] = b"\0\x09\x81\x80\0\x01\0\x01\0\0\0\0\x07example\0\0\x0f\0\x01\
+\xc0\x0c\0\x0f\0\x01\0\0\x01\x2c\0\x09\0\x0a\x04mail\xc0\x0c";
+
+#[test]
+fn a_message_is_walked_whole() {
+    let walk = fuzsbanel::walk(EXCHANGE).unwrap();
+    assert_eq!(walk.end(), EXCHANGE.len());
+    let queries: Vec<_> = walk.queries().collect();
+    let query = Query {
+        name: 12,
+        query_type: 15,
+        class: 1,
+    };
+    assert_eq!(queries, [(query, &b"\x07example\0"[..])]);
+    assert_eq!(fuzsbanel::query(EXCHANGE, 12), Ok((query, 25)));
+    let records: Vec<_> = walk.records().collect();
+    let (section, record, owner) = records[0];
     assert_eq!(
-        (options[0].code, options[0].data, options[1].code),
-        (10, &b"ab"[..], 3)
+        (records.len(), section, owner),
+        (1, Section::Answer, &b"\x07example\0"[..])
     );
-    assert_eq!(fuzsbanel::options(b"\0\x0a\0\x02a"), Err(Error::Short));
+    assert_eq!(
+        (record.name, record.data_place, record.data),
+        (25, 37, &b"\0\x0a\x04mail\xc0\x0c"[..])
+    );
+    assert_eq!(fuzsbanel::record(EXCHANGE, 25), Ok((record, 46)));
+    assert_eq!(fuzsbanel::name(owner, 0).as_deref(), Ok("example."));
+    assert_eq!(
+        fuzsbanel::data_text(EXCHANGE, record.name).as_deref(),
+        Ok("10 mail.example.")
+    );
+    assert_eq!(
+        fuzsbanel::name(EXCHANGE, record.data_place + 2).as_deref(),
+        Ok("mail.example.")
+    );
+    assert_eq!(
+        fuzsbanel::walk(&EXCHANGE[..45]).err(),
+        Some(Error::DataLength)
+    );
+    assert_eq!(fuzsbanel::walk(b"").err(), Some(Error::Short));
+}
+
+#[test]
+fn a_message_is_shown() {
+    let text = fuzsbanel::text(EXCHANGE).unwrap();
+    assert!(text.starts_with("; header 9:RESPONSE:RD,RA:NoError:QUERY\n"));
+    assert!(
+        text.ends_with("\nexample. 300 IN MX 10 mail.example.\n; authorities 0\n; additionals 0\n")
+    );
+}
+
+#[test]
+fn the_longest_text_of_a_name() {
+    // RFC 1035, 2.3.4 and 5.1: 255 bytes, each of the labels' written \DDD
+    let labels = [63, 63, 63, 61].map(|len| [vec![len], vec![0; usize::from(len)]].concat());
+    let name = [labels.concat(), vec![0]].concat();
+    assert_eq!(name.len(), 255);
+    assert_eq!(fuzsbanel::name(&name, 0).unwrap().len(), 1004);
+}
+
+#[test]
+fn a_walk_of_many_pointers_costs_what_the_bytes_cost() {
+    // data that is a chain of pointers, and then records whose owner is its end (RFC 1035, 4.1.4)
+    let mut message = b"\0\x01\x80\0\0\0\0\0\0\0\0\0\0\0\x0a\0\x01\0\0\0\0".to_vec();
+    let chain = 8_177;
+    message.extend(u16::to_be_bytes(1 + 2 * chain));
+    let start = u16::try_from(message.len()).unwrap();
+    message.push(0);
+    message.extend((0..chain).flat_map(|i| {
+        let before = if i == 0 { start } else { start + 2 * i - 1 };
+        (0xC000 | before).to_be_bytes()
+    }));
+    let end = 0xC000 | (start + 2 * chain - 1);
+    let mut records = 1_u16;
+    while message.len() + 13 <= 65_535 {
+        message.extend(end.to_be_bytes());
+        message.extend(b"\0\x0a\0\x01\0\0\0\0\0\x01x");
+        records += 1;
+    }
+    message[6..8].copy_from_slice(&records.to_be_bytes());
+    assert_eq!((message.len(), records), (65_531, 3_782));
+    let checked = Instant::now();
+    assert_eq!(fuzsbanel::check(&message), Ok(message.len()));
+    let checked = checked.elapsed();
+    let walked = Instant::now();
+    let walk = fuzsbanel::walk(&message).unwrap();
+    let roots = walk.records().filter(|(.., owner)| owner == b"\0").count();
+    let walked = walked.elapsed();
+    assert_eq!(roots, usize::from(records));
+    assert!(walked < 20 * checked, "{walked:?} and {checked:?}");
 }
 
 #[test]

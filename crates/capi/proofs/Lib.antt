@@ -2,3 +2,4 @@ mod AnswerLemmas
 mod ApplyLemmas
 mod MessageLemmas
 mod TextLemmas
+mod WalkLemmas

@@ -1,5 +1,5 @@
 -- The fields of a header as numbers.
-use Rattle.std.specs.Prelude.{◌≡◌, ◌⊎◌, ℕ, ℤ, List, neg_ℤ, pos, Ok, Err}
+use Rattle.std.specs.Prelude.{◌≡◌, ℕ, ℤ, List, neg_ℤ, pos, Ok, Err}
 use Rattle.op.specs.Header.{header_at}
 use Rattle.op.specs.MessageType.{is_response}
 use Rattle.op.specs.OpCode.{op_number}
@@ -35,8 +35,3 @@ numbers_of h = record {
 abbrev pub IsHeaderFilled : Asked Header → HeaderNumbers → HeaderNumbers → ℤ → Type 0
 IsHeaderFilled (Ok header) old new result = (new ≡ numbers_of header) × (result ≡ pos 12)
 IsHeaderFilled (Err number) old new result = (new ≡ old) × (result ≡ neg_ℤ (pos number))
-
--- So it is, or memory ran out.
-abbrev pub IsFilledIn : Asked Header → HeaderNumbers → HeaderNumbers → ℤ → Type 0
-IsFilledIn asked old new result = IsHeaderFilled asked old new result
-    ⊎ ((new ≡ old) × (result ≡ neg_ℤ (pos 3)))

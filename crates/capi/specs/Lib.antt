@@ -4,4 +4,5 @@ pub mod Header
 pub mod Message
 pub mod Update
 pub mod Walk
+pub mod WalkWhole
 pub mod ZoneText

@@ -7,6 +7,7 @@ use Rattle.base.specs.NameText.{name_text}
 use Rattle.base.specs.Names.{name_at}
 use Rattle.base.specs.Reading.{Fails, ◌>>=◌, bytes_at, number_at}
 use Rattle.base.specs.declared.error.decode_error.DecodeError.{DecodeError}
+use Rattle.base_data.specs.Kinds.{data_text}
 use Rattle.rr.specs.Record.{record_at}
 use Rattle.capi.specs.Answer.{Asked}
 use Rattle.capi.specs.declared.walk.OptionFound.{OptionFound}
@@ -34,25 +35,27 @@ abbrev pub record_end : List ℕ → ℕ → Found ℕ
 record_end bytes place = bytes_at place bytes 0 >>= λ before. record_at bytes before.1
     >>= λ r. Ok r.1
 
+-- the fields of a record whose owner is given, from the place after that on
+abbrev pub fields_found : List ℕ → ℕ → ℕ → Found RecordFound
+fields_found bytes owner place =
+    number_at w16 bytes place >>= λ type. number_at w16 bytes type.1 >>= λ class.
+    number_at w32 bytes class.1 >>= λ ttl. number_at w16 bytes ttl.1 >>= λ len.
+    Ok (
+    record {
+      name = owner;
+      data_place = len.1;
+      ttl = ttl.0;
+      record_type = type.0;
+      class = class.0;
+      data_len = len.0;
+    }
+    )
+
 -- the record at a place, and the place after it
 abbrev pub record_found : List ℕ → ℕ → Found (RecordFound × ℕ)
 record_found bytes place =
     record_end bytes place >>= λ end. bytes_at place bytes 0 >>= λ before. name_at bytes before.1
-    >>= λ name.
-    number_at w16 bytes name.1 >>= λ type. number_at w16 bytes type.1
-    >>= λ class. number_at w32 bytes class.1 >>= λ ttl.
-    number_at w16 bytes ttl.1 >>= λ len.
-    Ok (
-      record {
-        name = place;
-        data_place = len.1;
-        ttl = ttl.0;
-        record_type = type.0;
-        class = class.0;
-        data_len = len.0;
-      },
-      end,
-    )
+    >>= λ name. fields_found bytes place name.1 >>= λ found. Ok (found, end)
 
 -- the option at a place, and the place after it
 abbrev pub option_found : List ℕ → ℕ → Found (OptionFound × ℕ)
@@ -89,6 +92,11 @@ found_option bytes place = told (option_found bytes place)
 -- the text of the name at a place
 abbrev pub name_text_at : List ℕ → ℕ → Asked (List ℕ)
 name_text_at bytes place = told (name_found bytes place >>= λ name. Ok (name_text name))
+
+-- the text of the data of the record at a place
+abbrev pub data_text_at : List ℕ → ℕ → Asked (List ℕ)
+data_text_at bytes place = told (bytes_at place bytes 0 >>= λ before. record_at bytes before.1
+    >>= λ r. Ok (data_text r.0.rdata))
 
 -- What was found is filled in, and the place after it answered; or it stays, and minus the number of a refusal is
 -- answered.

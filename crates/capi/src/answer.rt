@@ -6,7 +6,7 @@ ghost use Rattle.capi.specs.Answer.{IsLeft, IsNumber, bytes_made, number_made};
 use crate::refusal::Refusal;
 
 /// What is answered where the caller's buffer has no room.
-const NO_ROOM: i64 = -100;
+pub const NO_ROOM: i64 = -100;
 
 /// Copies what was made into the caller's buffer, if it has room, and says how many bytes that takes.
 pub fn give(made: Result<Vec<u8>, Refusal>, out: &mut [u8], needed: &mut usize) -> i64

@@ -1,9 +1,8 @@
 //! The header of a message (RFC 1035, 4.1.1).
 
-ghost use Rattle.std.specs.Prelude.{◌≡◌};
+ghost use Rattle.std.specs.Prelude.{◌≡◌, MatchResult};
 ghost use Rattle.op.specs.MessageType.{is_response};
-ghost use Rattle.capi.specs.Answer.{Makes};
-ghost use Rattle.capi.specs.Header.{IsFilledIn, first_header, numbers_of};
+ghost use Rattle.capi.specs.Header.{IsHeaderFilled, first_header, numbers_of};
 
 use crate::answer::number;
 use crate::refusal::Refusal;
@@ -53,7 +52,7 @@ pub struct HeaderNumbers {
 /// 4 for fewer than twelve bytes; the fields stay.
 #[unsafe(no_mangle)]
 pub extern "C" fn fuzsbanel_header(alloc: Global, message: &[u8], header: &mut HeaderNumbers) -> i64
-    ensures { IsFilledIn (first_header message.now) header.old header.new result }
+    ensures { IsHeaderFilled (first_header message.now) header.old header.new result }
 {
     match read(alloc, message) {
         Ok(found) => {
@@ -66,7 +65,8 @@ pub extern "C" fn fuzsbanel_header(alloc: Global, message: &[u8], header: &mut H
 
 /// The header that the bytes begin with.
 fn read(alloc: Global, bytes: &[u8]) -> Result<Header, Refusal>
-    ensures { Makes (λ header. header) (first_header bytes.now) result }
+    ensures { MatchResult result (λ header. first_header bytes.now ≡ Ok header)
+        (λ refusal. first_header bytes.now ≡ Err refusal.number) }
 {
     Ok(Header::read(&mut BinDecoder::new(alloc, bytes))?)
 }

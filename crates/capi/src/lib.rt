@@ -9,6 +9,8 @@ mod applied;
 mod header;
 mod message;
 mod refusal;
+#[cfg(test)]
+mod tests;
 mod update;
 mod walk;
 mod zone;

@@ -3,7 +3,9 @@
 
 ghost use Rattle.std.specs.Prelude.{◌≡◌, ◌<◌, ◌^◌, IfOk};
 ghost use Rattle.capi.specs.Answer.{IsAnswered, Makes};
-ghost use Rattle.capi.specs.Walk.{Finds, IsFound, found_option, found_query, found_record, name_text_at, option_found, query_found, record_end, record_found, name_found, told};
+ghost use Rattle.capi.specs.Walk.{Finds, IsFilled, IsFound, data_text_at, fields_found, found_option, found_query, found_record, name_text_at, option_found, query_found, record_end, record_found, name_found, told};
+
+pub mod whole;
 
 use crate::answer::{give, number};
 use crate::refusal::Refusal;
@@ -25,7 +27,7 @@ pub struct QueryFound {
 
 /// Where a record stands, and its fields (RFC 1035, 4.1.3).
 #[repr(C)]
-#[derive(Drop)]
+#[derive(Clone, Copy, Drop)]
 pub struct RecordFound {
     /// The place of its owner.
     pub name: usize,
@@ -102,7 +104,7 @@ pub extern "C" fn fuzsbanel_option(
     place: usize,
     found: &mut OptionFound,
 ) -> i64
-    ensures { IsFound (found_option bytes.now place) found.old found.new result }
+    ensures { IsFilled (found_option bytes.now place) found.old found.new result }
 {
     fill(option_at(alloc, bytes, place), found)
 }
@@ -125,10 +127,30 @@ pub extern "C" fn fuzsbanel_name(
     give(name_text(alloc, message, place), out, needed)
 }
 
+/// Writes the text of the data of the record at a place into the caller's buffer, as `fuzsbanel_text` prints it.
+///
+/// # Errors
+///
+/// The number of the first fault: 4 to 8.
+#[unsafe(no_mangle)]
+pub extern "C" fn fuzsbanel_data_text(
+    alloc: Global,
+    message: &[u8],
+    place: usize,
+    out: &mut [u8],
+    needed: &mut usize,
+) -> i64
+    ensures { IsAnswered (data_text_at message.now place) out.old out.new needed.new result }
+{
+    give(data_text(alloc, message, place), out, needed)
+}
+
 /// Fills in what was found, and answers the place after it; or else answers why nothing was.
 fn fill<T: Drop>(made: Result<(T, usize), DecodeError>, found: &mut T) -> i64
     requires { IfOk made (λ r. r.1 < 2 ^ 63) }
-    ensures { (asked : _) → Finds asked made → IsFound (told asked) found.old found.new result }
+    ensures exact { IsFilled (told made) found.old found.new result }
+    ensures found { (asked : _) → Finds asked made
+        → IsFound (told asked) found.old found.new result }
 {
     match made {
         Ok((it, end)) => {
@@ -168,19 +190,25 @@ fn record_at(alloc: Global, bytes: &[u8], place: usize) -> Result<(RecordFound, 
     let mut decoder = BinDecoder::new(alloc, bytes);
     let _before = decoder.read_slice(place)?;
     let _name = Name::read(&mut decoder)?;
+    Ok((read_fields(&mut decoder, place)?, end))
+}
+
+/// Reads the fields of a record, which stand after its owner, and answers these and the places of both.
+fn read_fields(decoder: &mut BinDecoder<'_>, owner: usize) -> Result<RecordFound, DecodeError>
+    ensures { Finds (fields_found decoder.old.bytes owner decoder.old.index) result }
+{
     let record_type = decoder.read_u16()?;
     let class = decoder.read_u16()?;
     let ttl = decoder.read_u32()?;
     let data_len = decoder.read_u16()?;
-    let found = RecordFound {
-        name: place,
+    Ok(RecordFound {
+        name: owner,
         data_place: decoder.index(),
         ttl,
         record_type,
         class,
         data_len,
-    };
-    Ok((found, end))
+    })
 }
 
 /// The place after the record at a place.
@@ -197,7 +225,7 @@ fn record_end(alloc: Global, bytes: &[u8], place: usize) -> Result<usize, Decode
 
 /// The option at a place, and the place after it.
 fn option_at(alloc: Global, bytes: &[u8], place: usize) -> Result<(OptionFound, usize), DecodeError>
-    ensures found { Finds (option_found bytes.now place) result }
+    ensures found { result ≡ option_found bytes.now place }
     // The place is below 2^63, so that it can be answered as an `i64`.
     ensures addressable { IfOk result (λ r. r.1 < 2 ^ 63) }
 {
@@ -221,6 +249,16 @@ fn name_text(alloc: Global, bytes: &[u8], place: usize) -> Result<Vec<u8>, Refus
 {
     let name = name_at(alloc, bytes, place)?;
     Ok(name.to_string(alloc)?.into_bytes())
+}
+
+/// The text of the data of the record at a place.
+fn data_text(alloc: Global, bytes: &[u8], place: usize) -> Result<Vec<u8>, Refusal>
+    ensures { Makes (λ text. text.items) (data_text_at bytes.now place) result }
+{
+    let mut decoder = BinDecoder::new(alloc, bytes);
+    let _before = decoder.read_slice(place)?;
+    let record = Record::read(&mut decoder)?;
+    Ok(record.rdata.to_string(alloc)?.into_bytes())
 }
 
 /// The name at a place.

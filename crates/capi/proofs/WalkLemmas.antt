@@ -1,0 +1,239 @@
+-- Walking a message, step by step.
+use Rattle.std.proofs.Common.{◌≡◌, ℕ, ◌+◌, ◌-◌, ◌<◌, ◌≤◌, List, [], ◌∷◌, ◌++◌, length, take, drop, suc, false, refl, ap}
+use Rattle.std.proofs.Common.{sym, ◌∙◌, subst, arith, append_assoc, zero-add, add-zero, add-one, get_or, set}
+use Rattle.std.proofs.Common.{length-append, length-drop, Ok}
+use borrow.Rule.Slice.PartMut.{post_of, put_mid}
+use Rattle.std.proofs.Math.Seq.{drop-cons, take-length, take-suc}
+use Rattle.std.proofs.lemmas.Bool.{le-ltb}
+use Rattle.std.proofs.lemmas.List.{append-nil, drop_at, drop-drop, drop_all, length-take-le, set_at, take_at}
+use Rattle.std.proofs.lemmas.List.{take-append-drop}
+use Rattle.std.specs.Int.{w16, w32}
+use Rattle.std.specs.Prelude.{nat_lt, not, ◌&&◌, ◌==◌}
+use Rattle.base.specs.Labels.{NameValue}
+use Rattle.base.specs.Many.{many_at}
+use Rattle.base.specs.Names.{name_at}
+use Rattle.base.specs.Reading.{Fails, bytes_at, number_at}
+use Rattle.base.specs.Reader.{Reader, begun}
+use Rattle.base.specs.RecordType.{type_of}
+use Rattle.base.specs.declared.record_type.RecordType.{RecordType}
+use Rattle.base.specs.declared.error.decode_error.DecodeError.{DecodeError}
+use Rattle.base.proofs.ManyLemmas.{many-end, many-fault, many-step, with_front}
+use Rattle.base.proofs.ReadLemmas.{Fails-through, bind_ok}
+use Rattle.base_data.proofs.Tells.{same_ok}
+use Rattle.base_data.specs.RData.{rdata_at}
+use Rattle.base_data.specs.declared.rdata.RData.{RData}
+use Rattle.rr.proofs.ReadRecords.{turned}
+use Rattle.rr.specs.Record.{body_at, is_opt_type, record_at}
+use Rattle.rr.specs.declared.record.Record.{Record}
+use Rattle.capi.specs.Walk.{fields_found}
+use Rattle.capi.specs.WalkWhole.{go_on, item_at, items_of, names_of, octets_of, question_stop, record_stop, stop_at}
+use Rattle.capi.specs.declared.walk.RecordFound.{RecordFound}
+use Rattle.capi.specs.declared.walk.whole.Item.{Item}
+use Rattle.capi.specs.declared.walk.whole.Section.{Section}
+use Rattle.capi.specs.declared.walk.whole.Stop.{Stop}
+
+-- ---- one section
+
+-- The stops so far, and those of the section that are still to come, are all; in the one buffer.
+pub record Comes (section : Section) (count counter : ℕ) (first bytes : List ℕ) (start : List Stop × ℕ) (i : ℕ)
+    (stops : List Stop) : Type 0 where
+  pub whole : with_front stops (many_at (stop_at section) (count - counter) bytes i) ≡ go_on section count first start
+  pub same : bytes ≡ first
+  pub below : counter ≤ count
+  pub few : length stops ≤ length start.0 + counter
+
+pub comes_more : {section : Section} {n c : ℕ} {first bytes : List ℕ} {start : List Stop × ℕ} {i : ℕ}
+    {stops : List Stop} {x : Stop} {e : ℕ} → c < n
+    → stop_at section bytes i ≡ Ok (x, e) → Comes section n c first bytes start i stops
+    → Comes section n (c + 1) first bytes start e (stops ++ x ∷ [])
+comes_more {section} {n} {c} {bytes = bytes} {i = i} {stops = stops} {x = x} {e = e} below is g = record {
+  whole = sym (many-step (stop_at section) n c bytes i stops x e below is) ∙ g.whole;
+  same = g.same;
+  below = omega arith;
+  few = omega (arith, g.few, length-append stops (x ∷ []));
+}
+
+pub comes_all : {section : Section} {n c : ℕ} {first bytes : List ℕ} {start : List Stop × ℕ} {i : ℕ} {stops : List Stop}
+    → n ≤ c
+    → Comes section n c first bytes start i stops → go_on section n first start ≡ Ok (stops, i)
+comes_all {section} {n} {c} {bytes = bytes} {i = i} {stops = stops} done g =
+    let none : n - c ≡ 0 = omega arith in
+    sym g.whole ∙ rw none (many-end (stop_at section) bytes i stops)
+
+pub comes_fault : {section : Section} {n c : ℕ} {first bytes : List ℕ} {start : List Stop × ℕ} {i : ℕ}
+    {stops : List Stop} (f : DecodeError) → c < n
+    → Fails f (stop_at section bytes i) → Comes section n c first bytes start i stops
+    → Fails f (go_on section n first start)
+comes_fault {section} {n} {c} {first} {bytes} {start} {i} {stops} f below fails g =
+    Fails-through f (stop_at section bytes i) (go_on section n first start) (λ is. sym g.whole
+    ∙ many-fault (stop_at section) n c bytes i stops f below is) fails
+
+-- ---- one stop
+
+-- the bytes before a place are there
+pub before_is : (bytes : List ℕ) (place : ℕ) → place ≤ length bytes
+    → bytes_at place bytes 0 ≡ Ok (take place (drop 0 bytes), place)
+before_is bytes place inside =
+    let there : nat_lt (length bytes) place ≡ false = le-ltb (length bytes) place inside in
+    rw (zero-add, there) refl
+
+-- what comes after the type of a record that was read leaves it its owner
+body_owner : (owner : NameValue) (type : RecordType) (bytes : List ℕ) (i : ℕ) (r : Record RData × ℕ)
+    → body_at owner type bytes i ≡ Ok r → r.0.name ≡ owner
+unfolding body_at
+body_owner owner type bytes i r is =
+    let class = bind_ok (number_at w16 bytes i) _ r is in
+    let ttl = bind_ok (number_at w32 bytes class.value.1) _ r class.second in
+    let len = bind_ok (number_at w16 bytes ttl.value.1) _ r ttl.second in
+    let room = turned (nat_lt (length bytes) (len.value.1 + len.value.0)) _ _ r len.second in
+    let rdata = bind_ok (rdata_at type len.value.0 bytes len.value.1) _ r room.1 in
+    ap (λ (x : Record RData × ℕ). x.0.name) (sym (same_ok _ r rdata.second))
+
+-- a record that was read has the owner that was read at its place
+pub record_owner : (bytes : List ℕ) (i : ℕ) (owner : NameValue) (e : ℕ) (r : Record RData × ℕ)
+    → name_at bytes i ≡ Ok (owner, e) → record_at bytes i ≡ Ok r → r.0.name ≡ owner
+unfolding record_at
+record_owner bytes i owner e r name is =
+    let first = bind_ok (name_at bytes i) _ r is in
+    let type = bind_ok (number_at w16 bytes first.value.1) _ r first.second in
+    let tested = turned (is_opt_type (type_of type.value.0) && not (length first.value.0.labels == 0)) _ _ r type.second
+    in
+    let same = same_ok first.value (owner, e) (sym first.first ∙ name) in
+    body_owner first.value.0 (type_of type.value.0) bytes type.value.1 r tested.1 ∙ ap (λ (x : NameValue × ℕ). x.0) same
+
+module _ (bytes : List ℕ) (i : ℕ) (inside : i ≤ length bytes) where
+  -- a question or a record whose name isn't read is refused with its fault
+  pub question_unnamed : (f : DecodeError) → Fails f (name_at bytes i) → Fails f (question_stop bytes i)
+  question_unnamed f fails =
+      Fails-through f (name_at bytes i) (question_stop bytes i) (λ no. rw (before_is bytes i inside, no) refl) fails
+
+  pub record_unread : (section : Section) (f : DecodeError) → Fails f (record_at bytes i)
+      → Fails f (record_stop section bytes i)
+  record_unread section f fails =
+      Fails-through f (record_at bytes i) (record_stop section bytes i) (λ no. rw (before_is bytes i inside, no) refl)
+      fails
+
+  -- a record that was read stands there with its owner and its fields
+  pub record_passed : (section : Section) (r : Record RData × ℕ) (owner : NameValue) (e : ℕ) (found : RecordFound)
+      → record_at bytes i ≡ Ok r → name_at bytes i ≡ Ok (owner, e)
+      → fields_found bytes i e ≡ Ok found
+      → record_stop section bytes i ≡ Ok (record { section = section; name = r.0.name; found = found }, r.1)
+  record_passed section r owner e found read name fields =
+      let owned = record_owner bytes i owner e r name read in
+      rw (before_is bytes i inside, read, name, fields, owned) refl
+
+-- a new reader that passed the bytes before a place finds the fields that stand there
+pub fields_there : (B again : List ℕ) (i e place at : ℕ) (fresh after : Reader) (text : List ℕ) → fresh ≡ begun again
+    → B ≡ again → place ≡ i → at ≡ e → e ≤ length B
+    → (bytes_at at fresh.bytes fresh.index ≡ Ok (text, after.index)) × (after.bytes ≡ fresh.bytes)
+    → fields_found after.bytes place after.index ≡ fields_found B i e
+fields_there B again i e place at fresh after text new whole same there inside read =
+    let moved = subst (λ (r : Reader). (bytes_at at r.bytes r.index ≡ Ok (text, after.index)) × (after.bytes ≡ r.bytes))
+    new read in
+    let end : after.index ≡ at =
+    ap (λ (x : List ℕ × ℕ). x.1) (same_ok (text, after.index) (take at (drop 0 again), at) (sym moved.0
+    ∙ before_is again at (omega (arith, inside, there, ap length whole)))) in
+    let bytes : after.bytes ≡ B = moved.1 ∙ sym whole in
+    rw (bytes, same, end, there) refl
+
+-- ---- what a caller is told
+
+names_of-append : (xs ys : List Stop) → names_of (xs ++ ys) ≡ names_of xs ++ names_of ys
+unfolding names_of
+names_of-append [] ys = refl
+names_of-append (x ∷ xs) ys =
+    ap (λ (rest : List ℕ). octets_of x.name ++ rest) (names_of-append xs ys)
+    ∙ sym (append_assoc (octets_of x.name) (names_of xs) (names_of ys))
+
+names_of-one : (x : Stop) → names_of (x ∷ []) ≡ octets_of x.name
+unfolding names_of
+names_of-one x = append-nil (octets_of x.name)
+
+-- before any stop
+pub no_names : names_of [] ≡ []
+unfolding names_of
+no_names = refl
+
+pub no_items : (place : ℕ) → items_of place [] ≡ []
+unfolding items_of
+no_items place = refl
+
+length-items_of : (place : ℕ) (xs : List Stop) → length (items_of place xs) ≡ length xs
+unfolding items_of
+length-items_of place [] = refl
+length-items_of place (x ∷ xs) = ap suc (length-items_of (place + length (octets_of x.name)) xs)
+
+items_of-push : (place : ℕ) (xs : List Stop) (x : Stop)
+    → items_of place (xs ++ x ∷ []) ≡ items_of place xs ++ item_at (place + length (names_of xs)) x ∷ []
+unfolding items_of names_of
+items_of-push place [] x = ap (λ (p : ℕ). item_at p x ∷ []) (sym (add-zero place))
+items_of-push place (y ∷ ys) x =
+    let there : place + length (octets_of y.name) + length (names_of ys) ≡ place + length
+    (octets_of y.name ++ names_of ys) = omega (arith, length-append (octets_of y.name) (names_of ys)) in
+    ap (λ (rest : List Item). item_at place y ∷ rest) (items_of-push (place + length (octets_of y.name)) ys x
+    ∙ ap (λ (p : ℕ). items_of (place + length (octets_of y.name)) ys ++ item_at p x ∷ []) there)
+
+module _ (stops : List Stop) (i : ℕ) (x : Stop) (is : x ≡ get_or stops i x) (below : i < length stops) where
+  one_more_stop : take (i + 1) stops ≡ take i stops ++ x ∷ []
+  one_more_stop = ap (λ (n : ℕ). take n stops) (add-one i) ∙ take-suc stops i x below
+      ∙ ap (λ (y : Stop). take i stops ++ y ∷ []) (sym is)
+
+  -- the next stop's name comes after the others
+  pub more_names : names_of (take (i + 1) stops) ≡ names_of (take i stops) ++ octets_of x.name
+  more_names = ap names_of one_more_stop ∙ names_of-append (take i stops) (x ∷ [])
+      ∙ ap (λ (rest : List ℕ). names_of (take i stops) ++ rest) (names_of-one x)
+
+  pub names_length : length (names_of (take (i + 1) stops)) ≡ length (names_of (take i stops)) + length
+      (octets_of x.name)
+  names_length = ap length more_names ∙ length-append (names_of (take i stops)) (octets_of x.name)
+
+  -- and all names have room for it
+  pub name_has_room : length (names_of (take i stops)) + length (octets_of x.name) ≤ length (names_of stops)
+  name_has_room =
+      let whole = ap names_of (take-append-drop (i + 1) stops) in
+      let parts = names_of-append (take (i + 1) stops) (drop (i + 1) stops) in
+      omega (
+        arith,
+        names_length,
+        ap length (sym parts
+            ∙ whole),
+        length-append (names_of (take (i + 1) stops)) (names_of (drop (i + 1) stops)),
+      )
+
+  -- its item is put in the place of one of the caller's
+  pub item_put : (room : List Item) (place : ℕ) → i < length room → place ≡ length (names_of (take i stops))
+      → set (items_of 0 (take i stops) ++ drop i room) i (item_at place x) ≡ items_of 0 (take (i + 1) stops) ++ drop
+      (i + 1) room
+  item_put room place fits there =
+      let front : length (items_of 0 (take i stops)) ≡ i =
+      length-items_of 0 (take i stops) ∙ length-take-le i stops (omega arith) in
+      let placed : place ≡ 0 + length (names_of (take i stops)) = omega arith in
+      let old = get_or room i (item_at place x) in
+      ap (λ (rest : List Item). set (items_of 0 (take i stops) ++ rest) i (item_at place x))
+      (drop-cons room i (item_at place x) fits)
+      ∙ set_at (items_of 0 (take i stops)) old (drop (suc i) room) (item_at place x) i front
+      ∙ ap (λ (p : ℕ). items_of 0 (take i stops) ++ item_at p x ∷ drop (suc i) room) placed
+      ∙ sym (append_assoc (items_of 0 (take i stops)) (item_at (0 + length (names_of (take i stops))) x ∷ [])
+      (drop (suc i) room))
+      ∙ ap (λ (front : List Item). front ++ drop (suc i) room) (sym (items_of-push 0 (take i stops) x))
+      ∙ ap (λ (xs : List Stop). items_of 0 xs ++ drop (suc i) room) (sym one_more_stop)
+      ∙ ap (λ (n : ℕ). items_of 0 (take (i + 1) stops) ++ drop n room) (sym (add-one i))
+
+-- what is put after the bytes before leaves the rest
+pub bytes_put : (done x room old : List ℕ) (place n : ℕ) → place ≡ length done → old ≡ done ++ drop place room
+    → place ≤ length old
+    → put_mid place (length old - place) old (x ++ drop n (take (length old - place) (drop place old))) ≡ (done ++ x) ++
+    drop (place + n) room
+bytes_put done x room old place n there before inside =
+    let front : take place old ≡ done = ap (take place) before ∙ take_at done (drop place room) place (sym there) in
+    let tail : drop place old ≡ drop place room =
+    ap (drop place) before ∙ drop_at done (drop place room) place (sym there) in
+    let all : take (length old - place) (drop place old) ≡ drop place room =
+    ap (λ (k : ℕ). take k (drop place old)) (sym (length-drop place old)) ∙ take-length (drop place old) ∙ tail in
+    let past : post_of place (length old - place) old ≡ [] =
+    drop_all (length old - place) (drop place old) (omega (arith, length-drop place old)) in
+    rw (front, all, past, append-nil, drop-drop) (sym (append_assoc done x (drop (place + n) room)))
+
+-- so many bytes are left from a place on
+pub length-left : (old : List ℕ) (place : ℕ) → length (take (length old - place) (drop place old)) ≡ length old - place
+length-left old place = length-take-le (length old - place) (drop place old) (omega (arith, length-drop place old))
