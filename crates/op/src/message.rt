@@ -9,6 +9,7 @@ ghost use Rattle.op.specs.Parts.{AddsGiven, edns_version, is_for_all, payload_ta
 ghost use Rattle.op.specs.declared.header.message_type.MessageType.TheVariants as message_types;
 
 mod display;
+mod fits_wire;
 pub mod laws;
 mod reading;
 mod sections;

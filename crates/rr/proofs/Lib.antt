@@ -12,4 +12,5 @@ pub mod SetLaws
 pub mod SetSteps
 pub mod SetTidy
 pub mod SortedSteps
+pub mod TypeReads
 pub mod WithoutSteps

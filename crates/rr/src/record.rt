@@ -8,6 +8,7 @@ ghost use Rattle.rr.specs.RecordRef.{seen};
 
 mod compare;
 mod display;
+mod fits_wire;
 pub mod laws;
 mod reading;
 mod writing;
