@@ -28,7 +28,7 @@ use Rattle.rr.specs.declared.record.Record.{Record}
 
 supported_one : (t : RecordType) → is_ordinary t ≡ true → (r : Record RData) → type_of_data r.rdata ≡ t → is_supported r ≡ true
 supported_one t plain r own =
-    ap (λ (b : Bool). b || is_ns (type_of_record r) || is_cname (type_of_record r) || (is_any (type_of_record r) && is_class_any r.dns_class)) (ap is_ordinary own ∙ plain)
+    ap (λ (b : Bool). (b || is_ns (type_of_record r) || is_cname (type_of_record r)) || (is_any (type_of_record r) && is_class_any r.dns_class)) (ap is_ordinary own ∙ plain)
 
 asked_one : (t : RecordType) → is_ordinary t ≡ true → (r : Record RData) → type_of_data r.rdata ≡ t → is_supported_prerequisite r ≡ true
 asked_one t plain r own = ap (λ (b : Bool). b || (is_any (type_of_record r) && is_class_none r.dns_class)) (supported_one t plain r own)

@@ -1,6 +1,7 @@
 -- Updates that are built fit the wire, and uncut bytes of them are read as the same sections.
 use Rattle.std.proofs.Common.{◌≡◌, ◌≢◌, ℕ, Bool, true, false, List, [], ◌∷◌, ◌++◌, refl, ap, sym, ◌∙◌, subst, arith, Result, Ok, Err, map}
-use Rattle.std.specs.Prelude.{All, IfOk}
+use Rattle.std.specs.Option.{option_map}
+use Rattle.std.specs.Prelude.{All, IfOk, None, Option, Some}
 use Rattle.std.specs.List.{AllByRecursion}
 use Rattle.std.proofs.lemmas.Bool.{true≢false}
 use Rattle.std.proofs.lemmas.List.{append-nil}
@@ -13,6 +14,7 @@ use Rattle.base.specs.declared.record_type.RecordType.{RecordType}
 use Rattle.base.specs.declared.record_type.RecordType.TheVariants as types
 use Rattle.base_data.specs.Kinds.{type_of_data}
 use Rattle.base_data.specs.declared.rdata.RData.{RData}
+use Rattle.base_data.specs.declared.rdata.soa.SOA.{SOA}
 use Rattle.rr.specs.Record.{FitsRecord, is_opt_type}
 use Rattle.rr.specs.RecordSet.{SetValue}
 use Rattle.rr.specs.declared.record.Record.{Record}
@@ -24,9 +26,9 @@ use Rattle.op.specs.Section.{is_additional_type}
 use Rattle.op.specs.declared.op_code.OpCode.TheVariants as op_codes
 use Rattle.op.specs.declared.response_code.ResponseCode.{ResponseCode}
 use Rattle.op.proofs.MessageStands.{one_message}
-use Rattle.op_use.specs.SoundSet.{IsSendable, IsSendableKey, IsSendableOwner, IsSent, IsSentClass, IsSound, is_ordinary}
+use Rattle.op_use.specs.SoundSet.{IsSendable, IsSendableKey, IsSendableOwner, IsSendableSoa, IsSent, IsSentClass, IsSound, is_supported_type}
 use Rattle.op_use.specs.UpdateMeaning.{AppendsToSet, CreatesSet, DeletesData, DeletesName, DeletesSet, MeansUncut, SwapsSets}
-use Rattle.op_use.specs.UpdateMessage.{append, compare_and_swap, create, delete_all, delete_by_rdata, delete_rrset, empty_record, untimed_in, sections, update_edns, update_message, without_ttl}
+use Rattle.op_use.specs.UpdateMessage.{append, compare_and_swap, create, delete_all, delete_by_rdata, delete_rrset, empty_record, untimed_in, sections, soa_record, transfer_message, transfer_type, update_edns, update_message, without_ttl}
 use Rattle.base.specs.declared.error.proto_error.ProtoError.{ProtoError}
 use Rattle.op.specs.Message.{message_value}
 use Rattle.op.specs.declared.message.Message.{Message}
@@ -57,13 +59,13 @@ means_uncut m Premise outcome means limit B c k uncut n e word z premise = ap (s
 
 -- ---- what fits
 
-not_additional : (t : RecordType) → is_ordinary t ≡ true → is_additional_type t ≡ false
+not_additional : (t : RecordType) → is_supported_type t ≡ true → is_additional_type t ≡ false
 not_additional types.OPT h = cc
 not_additional types.SIG h = cc
 not_additional types.TSIG h = cc
 not_additional _ h = refl
 
-not_opt : (t : RecordType) → is_ordinary t ≡ true → is_opt_type t ≡ false
+not_opt : (t : RecordType) → is_supported_type t ≡ true → is_opt_type t ≡ false
 not_opt types.OPT h = cc
 not_opt _ h = refl
 
@@ -73,7 +75,7 @@ record IsSentType (t : RecordType) : Type 0 where
   not_opt : is_opt_type t ≡ false
   placed : is_additional_type t ≡ false
 
-sent_type : (s : SetValue) → IsSent s → is_ordinary s.record_type ≡ true → IsSentType s.record_type
+sent_type : (s : SetValue) → IsSent s → is_supported_type s.record_type ≡ true → IsSentType s.record_type
 sent_type s sent plain = record { reads = sent.type_reads; not_opt = not_opt s.record_type plain; placed = not_additional s.record_type plain }
 
 no_opt : (t : RecordType) → is_opt_type t ≡ false → t ≢ types.OPT
@@ -105,13 +107,13 @@ any_class : IsSentClass classes.ANY
 any_class = record { reads = refl; narrow = omega arith }
 
 -- the records of a set
-each_fits : (t : RecordType) → is_ordinary t ≡ true → (rs : List (Record RData))
+each_fits : (t : RecordType) → is_supported_type t ≡ true → (rs : List (Record RData))
     → AllByRecursion (λ (r : Record RData). type_of_data r.rdata ≡ t) rs → AllByRecursion FitsRecord rs → AllByRecursion (FitsPlain op_codes.Update) rs
 each_fits t plain [] own fits = tt
 each_fits t plain (r ∷ rs) own fits =
     (record { fits = fits.0; given = λ _. refl; placed = ap is_additional_type own.0 ∙ not_additional t plain }, each_fits t plain rs own.1 fits.1)
 
-records_fit : (s : SetValue) → IsSound s → is_ordinary s.record_type ≡ true → IsSent s → All (FitsPlain op_codes.Update) s.records
+records_fit : (s : SetValue) → IsSound s → is_supported_type s.record_type ≡ true → IsSent s → All (FitsPlain op_codes.Update) s.records
 records_fit s sound plain sent =
     All-from_recursion (FitsPlain op_codes.Update) s.records (each_fits s.record_type plain s.records sound.own_type (recursion_from_All FitsRecord s.records sent.records))
 
@@ -142,14 +144,14 @@ one_fits r fits = All-cons (FitsPlain op_codes.Update) r [] fits (All-nil _)
 pub append_fits : (id : ℕ) (s : SetValue) (origin : NameValue) (must_exist use_edns : Bool) → IsSendable origin s → Fits (update_message id use_edns (append s origin must_exist))
 append_fits id s origin true use_edns g =
     sections_fit id use_edns origin s.dns_class _ _ g.rooted g.sent.class
-    (one_fits _ (empty_fits s.name s.record_type classes.ANY g.sent.absolute (sent_type s g.sent g.ordinary) any_class)) (records_fit s g.sound g.ordinary g.sent)
+    (one_fits _ (empty_fits s.name s.record_type classes.ANY g.sent.absolute (sent_type s g.sent g.supported) any_class)) (records_fit s g.sound g.supported g.sent)
 append_fits id s origin false use_edns g =
-    sections_fit id use_edns origin s.dns_class _ _ g.rooted g.sent.class (All-nil _) (records_fit s g.sound g.ordinary g.sent)
+    sections_fit id use_edns origin s.dns_class _ _ g.rooted g.sent.class (All-nil _) (records_fit s g.sound g.supported g.sent)
 
 pub create_fits : (id : ℕ) (s : SetValue) (origin : NameValue) (use_edns : Bool) → IsSendable origin s → Fits (update_message id use_edns (create s origin))
 create_fits id s origin use_edns g =
     sections_fit id use_edns origin s.dns_class _ _ g.rooted g.sent.class
-    (one_fits _ (empty_fits s.name s.record_type classes.NONE g.sent.absolute (sent_type s g.sent g.ordinary) none_class)) (records_fit s g.sound g.ordinary g.sent)
+    (one_fits _ (empty_fits s.name s.record_type classes.NONE g.sent.absolute (sent_type s g.sent g.supported) none_class)) (records_fit s g.sound g.supported g.sent)
 
 -- records in the class NONE, and without a TTL
 in_none : (r : Record RData) → is_opt_type (type_of_data r.rdata) ≡ false → FitsRecord r → FitsRecord (untimed_in classes.NONE r)
@@ -162,7 +164,7 @@ in_none r plain fits = record {
   not_flushing = λ e. absurd (true≢false (sym e ∙ plain));
 }
 
-each_none : (t : RecordType) → is_ordinary t ≡ true → (rs : List (Record RData)) → AllByRecursion (λ (r : Record RData). type_of_data r.rdata ≡ t) rs
+each_none : (t : RecordType) → is_supported_type t ≡ true → (rs : List (Record RData)) → AllByRecursion (λ (r : Record RData). type_of_data r.rdata ≡ t) rs
     → AllByRecursion FitsRecord rs → AllByRecursion (FitsPlain op_codes.Update) (map (untimed_in classes.NONE) rs)
 each_none t plain [] own fits = tt
 each_none t plain (r ∷ rs) own fits =
@@ -171,7 +173,7 @@ each_none t plain (r ∷ rs) own fits =
 pub delete_by_rdata_fits : (id : ℕ) (s : SetValue) (origin : NameValue) (use_edns : Bool) → IsSendable origin s → Fits (update_message id use_edns (delete_by_rdata s origin))
 delete_by_rdata_fits id s origin use_edns g =
     sections_fit id use_edns origin s.dns_class _ _ g.rooted g.sent.class (All-nil _)
-    (All-from_recursion (FitsPlain op_codes.Update) _ (each_none s.record_type g.ordinary s.records g.sound.own_type (recursion_from_All FitsRecord s.records g.sent.records)))
+    (All-from_recursion (FitsPlain op_codes.Update) _ (each_none s.record_type g.supported s.records g.sound.own_type (recursion_from_All FitsRecord s.records g.sent.records)))
 
 with_zero_ttl : (r : Record RData) → FitsRecord r → FitsRecord (without_ttl r)
 with_zero_ttl r fits = record {
@@ -183,7 +185,7 @@ with_zero_ttl r fits = record {
   not_flushing = fits.not_flushing;
 }
 
-each_untimed : (t : RecordType) → is_ordinary t ≡ true → (rs : List (Record RData)) → AllByRecursion (λ (r : Record RData). type_of_data r.rdata ≡ t) rs
+each_untimed : (t : RecordType) → is_supported_type t ≡ true → (rs : List (Record RData)) → AllByRecursion (λ (r : Record RData). type_of_data r.rdata ≡ t) rs
     → AllByRecursion FitsRecord rs → AllByRecursion (FitsPlain op_codes.Update) (map without_ttl rs)
 each_untimed t plain [] own fits = tt
 each_untimed t plain (r ∷ rs) own fits =
@@ -194,22 +196,58 @@ pub compare_and_swap_fits : (id : ℕ) (current new : SetValue) (origin : NameVa
 compare_and_swap_fits id current new origin use_edns g h =
     let fits = recursion_from_All FitsRecord current.records g.sent.records in
     sections_fit id use_edns origin new.dns_class _ _ g.rooted h.sent.class
-    (All-from_recursion (FitsPlain op_codes.Update) _ (each_untimed current.record_type g.ordinary current.records g.sound.own_type fits))
-    (All-append (FitsPlain op_codes.Update) _ _ (All-from_recursion (FitsPlain op_codes.Update) _ (each_none current.record_type g.ordinary current.records g.sound.own_type fits))
-    (records_fit new h.sound h.ordinary h.sent))
+    (All-from_recursion (FitsPlain op_codes.Update) _ (each_untimed current.record_type g.supported current.records g.sound.own_type fits))
+    (All-append (FitsPlain op_codes.Update) _ _ (All-from_recursion (FitsPlain op_codes.Update) _ (each_none current.record_type g.supported current.records g.sound.own_type fits))
+    (records_fit new h.sound h.supported h.sent))
 
 pub delete_rrset_fits : (id : ℕ) (r : Record RData) (origin : NameValue) (use_edns : Bool) → IsSendableKey origin r.name (type_of_data r.rdata) r.dns_class
     → Fits (update_message id use_edns (delete_rrset r origin))
 delete_rrset_fits id r origin use_edns g =
     let t = type_of_data r.rdata in
     sections_fit id use_edns origin r.dns_class _ _ g.rooted g.sent_class (All-nil _)
-    (one_fits _ (bare_fits r.name t classes.ANY r.mdns_cache_flush g.owned (record { reads = g.type_reads; not_opt = not_opt t g.ordinary; placed = not_additional t g.ordinary }) any_class))
+    (one_fits _ (bare_fits r.name t classes.ANY r.mdns_cache_flush g.owned (record { reads = g.type_reads; not_opt = not_opt t g.supported; placed = not_additional t g.supported }) any_class))
 
 pub delete_all_fits : (id : ℕ) (owner origin : NameValue) (class : DNSClass) (use_edns : Bool) → IsSendableOwner origin owner class
     → Fits (update_message id use_edns (delete_all owner origin class))
 delete_all_fits id owner origin class use_edns g =
     sections_fit id use_edns origin class _ _ g.rooted g.sent_class (All-nil _)
     (one_fits _ (empty_fits owner types.ANY classes.ANY g.owned (record { reads = refl; not_opt = refl; placed = refl }) any_class))
+
+-- the question for a transfer
+soa_fits : (origin : NameValue) (soa : SOA) → origin.absolute ≡ true → IsSendableSoa (Some soa) → FitsPlain op_codes.Query (soa_record origin soa)
+soa_fits origin soa rooted sent = record {
+  fits = record {
+    reads = record { type_reads = refl; root = λ e. absurd (no_opt types.SOA refl e); readable = sent };
+    absolute = rooted;
+    class_reads = λ _. refl;
+    narrow = λ _. omega arith;
+    payload_reads = λ e. absurd (true≢false (sym e));
+    not_flushing = λ e. absurd (true≢false (sym e));
+  };
+  given = λ e. absurd (true≢false (sym e));
+  placed = refl;
+}
+
+last_soa_fits : (origin : NameValue) (last : Option SOA) → origin.absolute ≡ true → IsSendableSoa last
+    → All (FitsPlain op_codes.Query) (as_list (option_map (soa_record origin) last))
+last_soa_fits origin None rooted sent = All-nil _
+last_soa_fits origin (Some soa) rooted sent = All-cons (FitsPlain op_codes.Query) _ [] (soa_fits origin soa rooted sent) (All-nil _)
+
+transfer_type_reads : (last : Option SOA) → type_of (type_number (transfer_type last)) ≡ transfer_type last
+transfer_type_reads None = refl
+transfer_type_reads (Some soa) = refl
+
+pub transfer_fits : (id : ℕ) (origin : NameValue) (last : Option SOA) → origin.absolute ≡ true → IsSendableSoa last → Fits (transfer_message id origin last)
+transfer_fits id origin last rooted sent = record {
+  op_code = omega arith;
+  op_code_reads = refl;
+  queries = All-cons FitsQuery _ [] (record { absolute = rooted; type_reads = transfer_type_reads last; class_reads = refl; narrow = omega arith }) (All-nil FitsQuery);
+  answers = All-nil _;
+  authorities = last_soa_fits origin last rooted sent;
+  additionals = All-nil _;
+  edns = edns_fits true;
+  signature = All-nil _;
+}
 
 -- ---- what uncut bytes mean
 

@@ -10,11 +10,11 @@ use Rattle.op.specs.declared.response_code.ResponseCode.TheVariants.{NoError, No
 use Rattle.op.specs.declared.response_code.ResponseCode.{ResponseCode}
 use Rattle.op_use.specs.AppliedRecords.{records_answered}
 use Rattle.op_use.specs.NamedChanges.{datum_of, set_key}
-use Rattle.op_use.specs.Server.{Sections, fault, is_any, is_cname, serve}
+use Rattle.op_use.specs.Server.{Sections, fault, is_any, serve}
 use Rattle.rr.specs.Record.{type_of_record}
-use Rattle.op_use.specs.SoundSet.{is_ordinary}
+use Rattle.op_use.specs.SoundSet.{is_supported_type}
 use Rattle.op_use.specs.Zone.{Datum, Zone, is_owned}
-use Rattle.rr.specs.RecordSet.{SetValue, is_ns}
+use Rattle.rr.specs.RecordSet.{SetValue}
 use Rattle.rr.specs.SetUpdates.{last_ttl}
 use Rattle.rr.specs.declared.record.Record.{Record}
 use Rattle.std.specs.BTreeMap as tree
@@ -64,11 +64,10 @@ abbrev pub is_class_none : DNSClass → Bool
 is_class_none classes.NONE = true
 is_class_none _ = false
 
--- whether a record of an update is of a type that is supported: an ordinary one, NS or CNAME, or ANY where it names all
--- types of an owner
+-- whether a record of an update is of a type that is supported, or of ANY where it names all types of an owner
 abbrev pub is_supported : Record RData → Bool
-is_supported r = is_ordinary (type_of_record r) || is_ns (type_of_record r)
-    || is_cname (type_of_record r) || (is_any (type_of_record r) && is_class_any r.dns_class)
+is_supported r = is_supported_type (type_of_record r)
+    || (is_any (type_of_record r) && is_class_any r.dns_class)
 
 -- the same of a prerequisite, which in the class NONE may be of type ANY: the owner has no set (RFC 2136, 2.4.5)
 abbrev pub is_supported_prerequisite : Record RData → Bool

@@ -1,11 +1,12 @@
 -- Premises of updates: sets that are sound and ordinary, that the wire carries, and that are of a zone.
-use Rattle.std.specs.Prelude.{All, Bool, false, nat_le, not, true, ℕ, ◌&&◌, ◌<◌, ◌==◌, ◌||◌, ◌≡◌}
+use Rattle.std.specs.Prelude.{All, Bool, None, Option, Some, false, nat_le, not, true, ℕ, ◌&&◌, ◌<◌, ◌==◌, ◌||◌, ◌≡◌}
 use Rattle.std.specs.List.{AllByRecursion, IsDistinct}
 use Rattle.std.specs.Ordering.{on}
 use Rattle.base.specs.Labels.{NameValue}
 use Rattle.base.specs.NameOrder.{is_zone_of, same_name}
 use Rattle.base_data.specs.Kinds.{type_of_data}
 use Rattle.base_data.specs.declared.rdata.RData.{RData}
+use Rattle.base_data.specs.declared.rdata.soa.SOA.{SOA}
 use Rattle.base.specs.RecordType.{type_number, type_of}
 use Rattle.base.specs.declared.record_type.RecordType.{RecordType}
 use Rattle.base.specs.declared.record_type.RecordType.TheVariants as types
@@ -13,8 +14,9 @@ use Rattle.base.specs.declared.dns_class.DNSClass.{DNSClass}
 use Rattle.base.specs.declared.dns_class.DNSClass.TheVariants as classes
 use Rattle.rr.specs.declared.record.Record.{Record}
 use Rattle.base.specs.RrKey.{key_of}
-use Rattle.rr.specs.RecordSet.{SetValue}
+use Rattle.rr.specs.RecordSet.{SetValue, is_ns}
 use Rattle.base_data.specs.SameData.{same_data}
+use Rattle.op_use.specs.Server.{is_cname}
 use Rattle.op_use.specs.Zone.{IsZone, Zone, has_set}
 use Rattle.base.specs.DNSClass.{class_number, class_of}
 use Rattle.rr.specs.Record.{FitsRecord}
@@ -34,6 +36,10 @@ is_ordinary_number n =
 -- a type that updates treat like most
 abbrev pub is_ordinary : RecordType → Bool
 is_ordinary type = is_ordinary_number (type_number type)
+
+-- whether updates of records of a type are supported: of an ordinary one, NS or CNAME
+abbrev pub is_supported_type : RecordType → Bool
+is_supported_type type = is_ordinary type || is_ns type || is_cname type
 
 -- A sound set: its records have its owner, type and class, which is none that updates give a meaning of their own, and
 -- no two of them have equal data.
@@ -78,15 +84,15 @@ pub record IsSent (s : SetValue) : Type 0 where
 pub record IsSendable (origin : NameValue) (s : SetValue) : Type 0 where
   pub rooted : origin.absolute ≡ true
   pub sound : IsSound s
-  pub ordinary : is_ordinary s.record_type ≡ true
+  pub supported : is_supported_type s.record_type ≡ true
   pub sent : IsSent s
 
--- an owner, an ordinary type and a class that can be sent so
+-- an owner, a type and a class that can be sent so
 pub record IsSendableKey (origin owner : NameValue) (type : RecordType)
     (class : DNSClass) : Type 0 where
   pub rooted : origin.absolute ≡ true
   pub owned : owner.absolute ≡ true
-  pub ordinary : is_ordinary type ≡ true
+  pub supported : is_supported_type type ≡ true
   pub type_reads : type_of (type_number type) ≡ type
   pub sent_class : IsSentClass class
 
@@ -95,3 +101,8 @@ pub record IsSendableOwner (origin owner : NameValue) (class : DNSClass) : Type 
   pub rooted : origin.absolute ≡ true
   pub owned : owner.absolute ≡ true
   pub sent_class : IsSentClass class
+
+-- an SOA that a question for what changed since then can be sent with, if there is one (RFC 1995, 3)
+abbrev pub IsSendableSoa : Option SOA → Type 0
+IsSendableSoa None = Unit {0}
+IsSendableSoa (Some soa) = (soa.mname.absolute ≡ true) × (soa.rname.absolute ≡ true)

@@ -24,6 +24,7 @@ use rr::RecordSet;
 use std::alloc::{AllocError, Global};
 use std::collections::BTreeMap;
 use supported::is_supported;
+pub use supported::is_supported_type;
 use zone::Zone;
 
 /// Applies an update to the sets of a zone of this origin and class: answers the server's code (RFC 2136, 2.2), and the

@@ -1,7 +1,8 @@
 -- The sets of a zone stay as they stand under their keys.
-use Rattle.std.proofs.Common.{◌≡◌, ◌≢◌, ◌≤◌, List, [], ◌∷◌, length, refl, ap, sym, subst, arith, Bool, true, false}
+use Rattle.std.proofs.Common.{◌≡◌, ◌≢◌, ◌≤◌, ◌++◌, List, [], ◌∷◌, length, refl, ap, sym, subst, arith, Bool, true, false}
 use Rattle.std.specs.BTreeMap.{is_at}
 use Rattle.std.specs.Bool.{beq}
+use Rattle.std.specs.List.{AllByRecursion, list_any}
 use Rattle.std.specs.Ordering.{is_eq}
 use Rattle.std.specs.Prelude.{◌&&◌, if◌then◌else◌}
 use Rattle.std.specs.declared.cmp.Ordering.{Ordering}
@@ -15,7 +16,7 @@ use Rattle.base.specs.declared.rr_key.RrKey.{RrKey}
 use Rattle.base_data.specs.declared.rdata.RData.{RData}
 use Rattle.rr.proofs.SetTidy.{insert_keeps_tidy, one_is_tidy}
 use Rattle.rr.specs.RecordSet.{SetValue, set_of}
-use Rattle.rr.specs.SetChanges.{MayEnter, beside, holds_one, insert, is_left, joined}
+use Rattle.rr.specs.SetChanges.{MayEnter, beside, has_data_of, holds_one, insert, is_left, joined, replaced}
 use Rattle.rr.specs.declared.record.Record.{Record}
 use Rattle.txt.specs.ZoneSets.{IsKeyed}
 use Rattle.rr.specs.Record.{record_key}
@@ -57,11 +58,39 @@ one_of : (r : Record RData) (xs : List (Record RData)) (b : Bool) → b ≡ true
 one_of r xs true is = omega arith
 one_of r xs false is = absurd cc
 
+-- each record has the name of the set, before and after `insert`
+abbrev OwnOwner : NameValue → List (Record RData) → Type 0
+OwnOwner name = AllByRecursion (λ (x : Record RData). same_name x.name name ≡ true)
+
+own_replaced : (name : NameValue) (r : Record RData) → same_name r.name name ≡ true → (xs : List (Record RData)) → OwnOwner name xs → OwnOwner name (replaced r xs)
+own_replaced name r own [] all = tt
+own_replaced name r own (x ∷ xs) all = (one (has_data_of r x), own_replaced name r own xs all.1) where
+  one : (b : Bool) → same_name (if b then r else x).name name ≡ true
+  one true = own
+  one false = all.0
+
+own_append : (name : NameValue) (xs ys : List (Record RData)) → OwnOwner name xs → OwnOwner name ys → OwnOwner name (xs ++ ys)
+own_append name [] ys own more = more
+own_append name (x ∷ xs) ys own more = (own.0, own_append name xs ys own.1 more)
+
+own_joined : (name : NameValue) (r : Record RData) → same_name r.name name ≡ true → (xs : List (Record RData)) → OwnOwner name xs → OwnOwner name (joined r xs)
+own_joined name r own xs all = own_append name (replaced r xs) _ (own_replaced name r own xs all) (last (list_any (has_data_of r) xs)) where
+  last : (b : Bool) → OwnOwner name (if b then [] else r ∷ [])
+  last true = tt
+  last false = (own, tt)
+
+own_beside : (name : NameValue) (b : Bool) (xs : List (Record RData)) → OwnOwner name xs → OwnOwner name (if b then [] else xs)
+own_beside name true xs all = tt
+own_beside name false xs all = all
+
 -- the set is kept with one record more
 pub insert_kept : (set : SetValue) (r : Record RData) → IsKeyed (record_key r) set → IsKeyed (record_key r) (insert set r 0).1
 insert_kept set r kept = record {
   key_is = insert_cases (λ s. record_key r ≡ key_of s.name s.record_type) set r kept.key_is kept.key_is;
   some = insert_cases (λ s. s.records ≢ []) set r kept.some (some_joined r (beside set.record_type set.records));
+  own_owner = insert_cases (λ s. OwnOwner s.name s.records) set r kept.own_owner
+      (own_joined set.name r (same_of_lower r.name set.name (ap (λ (k : RrKey). k.name) kept.key_is)) (beside set.record_type set.records)
+      (own_beside set.name (holds_one set.record_type) set.records kept.own_owner));
   tidy = insert_keeps_tidy set r 0 (enters set r kept) kept.tidy;
   single = insert_cases (λ s. holds_one s.record_type ≡ true → length s.records ≤ 1) set r kept.single (one_of r set.records (holds_one set.record_type));
 }
@@ -71,6 +100,7 @@ pub new_kept : (r : Record RData) → IsKeyed (record_key r) (set_of r)
 new_kept r = record {
   key_is = refl;
   some = λ none. let e : ⊥ = cc in e;
+  own_owner = (same_of_lower r.name r.name refl, tt);
   tidy = one_is_tidy r;
   single = λ holds. omega arith;
 }

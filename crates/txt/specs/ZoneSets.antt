@@ -3,6 +3,7 @@ use Rattle.std.specs.BTreeMap.{insert_entry, is_at}
 use Rattle.std.specs.Map.{lookup, set_value}
 use Rattle.std.specs.List.{AllByRecursion}
 use Rattle.std.specs.Prelude.{◌≡◌, ◌≢◌, ◌≤◌, true, List, [], Option, Some, None, Result, Ok, Err, codes, if◌then◌else◌, length}
+use Rattle.base.specs.NameOrder.{same_name}
 use Rattle.base.specs.RrKey.{key_cmp, key_of}
 use Rattle.base.specs.TextFaults.{Fault, says}
 use Rattle.base.specs.declared.rr_key.RrKey.{RrKey}
@@ -37,11 +38,12 @@ added_to sets r (Some set) =
 abbrev pub sets_with : ZoneSets → Record RData → Result ZoneSets Fault
 sets_with sets r = added_to sets r (set_at sets (record_key r))
 
--- A set as it stands under a key: of the key's owner and type, not empty and tidy, and with one record where only one
--- may stand.
+-- A set as it stands under a key: of the key's owner and type, as each record is, not empty and tidy, and with one
+-- record where only one may stand.
 pub record IsKeyed (key : RrKey) (set : SetValue) : Type 0 where
   pub key_is : key ≡ key_of set.name set.record_type
   pub some : set.records ≢ []
+  pub own_owner : AllByRecursion (λ (r : Record RData). same_name r.name set.name ≡ true) set.records
   pub tidy : IsTidy set
   pub single : holds_one set.record_type ≡ true → length set.records ≤ 1
 

@@ -2,6 +2,7 @@
 
 ghost use Rattle.op.specs.Message.{message_value};
 ghost use Rattle.op_use.specs.Applying.{is_all_supported, is_supported as is_supported_record, is_supported_prerequisite};
+ghost use Rattle.op_use.specs.SoundSet.{is_supported_type};
 ghost use Rattle.op_use.specs.Server.{sections_of};
 ghost use Rattle.std.specs.Prelude.{◌≡◌};
 
@@ -40,8 +41,14 @@ fn is_supported_prerequisite(entry: &Record) -> bool
 fn is_supported_update(entry: &Record) -> bool
     ensures { result ≡ is_supported_record entry.now }
 {
-    is_ordinary(entry.record_type())
-        || entry.record_type() == RecordType::NS
-        || entry.record_type() == RecordType::CNAME
+    is_supported_type(entry.record_type())
         || (entry.record_type() == RecordType::ANY && matches!(entry.dns_class, DNSClass::ANY))
+}
+
+/// Whether updates of records of a type are supported: of an ordinary one, NS or CNAME. ANY stands for types, and SOA is
+/// changed by no update here (RFC 2136, 3.4.2.2).
+pub fn is_supported_type(record_type: RecordType) -> bool
+    ensures { result ≡ is_supported_type record_type }
+{
+    is_ordinary(record_type) || record_type == RecordType::NS || record_type == RecordType::CNAME
 }

@@ -7,7 +7,7 @@ ghost use Rattle.base_data.specs.Kinds.{type_of_data};
 ghost use Rattle.op.specs.Edns.{new_edns};
 ghost use Rattle.op.specs.Fits.{Fits};
 ghost use Rattle.op.specs.Message.{message_value};
-ghost use Rattle.op_use.specs.SoundSet.{IsSendable, IsSendableKey, IsSendableOwner};
+ghost use Rattle.op_use.specs.SoundSet.{IsSendable, IsSendableKey, IsSendableOwner, IsSendableSoa};
 ghost use Rattle.op_use.specs.UpdateMeaning.{AppendsToSet, CreatesSet, DeletesData, DeletesName, DeletesSet, SwapsSets};
 ghost use Rattle.op_use.specs.UpdateMessage.{append as append_sections, compare_and_swap as swap_sections, create as create_sections};
 ghost use Rattle.op_use.specs.UpdateMessage.{delete_all as delete_all_sections, delete_by_rdata as delete_data_sections, delete_rrset as delete_set_sections, empty_record as empty_entry};
@@ -280,6 +280,9 @@ pub fn zone_transfer(
     last_soa: Option<SOA>,
 ) -> Result<Message, ProtoError>
     ensures built { IfOk result (λ m. message_value m ≡ transfer_message id origin last_soa) }
+    // Where the names are absolute, the message can stand on the wire.
+    ensures fits { IfOk result (λ m. origin.absolute ≡ true → IsSendableSoa last_soa
+        → Fits (message_value m)) }
     ensures only { IsOkUnless result ProtoError.Memory }
 {
     let mut query_type = RecordType::AXFR;
