@@ -55,8 +55,15 @@ enum fuzsbanel_refusal {
     FUZSBANEL_UNKNOWN_TYPE = 21,      /* zone text: no record type */
     FUZSBANEL_UNSUPPORTED_TYPE = 22,  /* zone text: a type without a text form */
     FUZSBANEL_BAD_TEXT = 23,          /* zone text: items that are no data, name or TTL */
-    FUZSBANEL_INPUT = 24,             /* not UTF-8, or not one set within the zone */
-    FUZSBANEL_CLASS = 25              /* a record of the zone isn't of the class IN */
+    FUZSBANEL_NOT_UTF8 = 24,          /* a text that isn't UTF-8 */
+    FUZSBANEL_CLASS = 25,             /* a record that isn't of the class IN */
+    FUZSBANEL_NO_ORIGIN = 26,         /* an origin of no bytes, where a zone has to be named */
+    FUZSBANEL_NOT_ONE_SET = 27,       /* the text of a set without a record, or with several owners or types */
+    FUZSBANEL_OUTSIDE = 28,           /* an owner outside the zone */
+    FUZSBANEL_TYPE = 29,              /* a type that no update here is of: SOA, query and meta types, SIG, WKS, 0 */
+    FUZSBANEL_NOT_SOA = 30,           /* a record that isn't the zone's SOA */
+    FUZSBANEL_NOT_ON_WIRE = 31,       /* a name in data that is relative, which no message can have */
+    FUZSBANEL_TOO_LONG = 32           /* an update or question of more than 65,535 bytes */
 };
 
 /* ---- messages (RFC 1035, 4.1) */
@@ -66,8 +73,10 @@ enum fuzsbanel_refusal {
 int64_t fuzsbanel_check(const uint8_t *message, size_t len);
 
 /* Writes that message again in at most `limit` bytes, names compressed: what doesn't fit is left out, and TC says so
- * (RFC 2181, 9). Any limit from 12 bytes and the questions on has room; `cap` may be less than `limit`. Refuses as
- * fuzsbanel_check does, and with 1 or 2 for a limit without room. */
+ * (RFC 2181, 9). The parts are written in their order, and each is cut by itself, EDNS too: a cut answer may have no OPT
+ * record, though RFC 6891, 7 wants one in the response to a query that has it. Where TC comes with no OPT, send the header
+ * and the questions with an OPT record, and no answers. Any limit from 12 bytes and the questions on has room; `cap` may be
+ * less than `limit`. Refuses as fuzsbanel_check does, and with 1 or 2 for a limit without room. */
 int64_t fuzsbanel_cut(const uint8_t *message, size_t len, uint16_t limit, uint8_t *out, size_t cap, size_t *needed);
 
 /* Writes the text of that message: a line for the header, one for EDNS if there is any, and one for each question; of a
@@ -190,17 +199,21 @@ int64_t fuzsbanel_data_text(const uint8_t *message, size_t len, size_t place, ui
 int64_t fuzsbanel_zone(const uint8_t *origin, size_t origin_len, const uint8_t *text, size_t text_len, uint8_t *out,
                        size_t cap, size_t *needed);
 
-/* Writes what a server makes of an update message and the zone of a text: a line with its code, as `NoError` or
- * `YXRRSet`, and the zone then, as fuzsbanel_zone has it (RFC 2136, 3). Of any code but `NoError` the zone is as it was.
- * Refuses with the update's first fault, as fuzsbanel_zone does, and with 25 for a zone of another class than IN. */
+/* Writes what the server of the zone `origin` makes of an update message and the zone's text: a line with its code, as
+ * `NoError` or `YXRRSet`, and the zone then, as fuzsbanel_zone has it (RFC 2136, 3). Of any code but `NoError` the zone is
+ * as it was. An `$ORIGIN` of the text says how its names end, and never which zone it is. Two things are the caller's:
+ * the SOA's serial stays as it was, since RFC 2136, 3.6 leaves it to the server when it is raised; and an update with a
+ * record of type SOA, or of another type that the updates below refuse with 29, is answered `NotImp` as a whole. Refuses
+ * with the update's first fault, with 26, as fuzsbanel_zone does, and with 25 for a zone of another class than IN. */
 int64_t fuzsbanel_apply(const uint8_t *update, size_t update_len, const uint8_t *origin, size_t origin_len,
                         const uint8_t *text, size_t text_len, uint8_t *out, size_t cap, size_t *needed);
 
 /* ---- updates (RFC 2136, 2)
  *
- * Each writes the bytes of a message with this id. `origin` is the text of the zone's name, as `example.`; a set is the
- * zone text of its records, as `www 300 A 192.0.2.1`: all of one owner, in the zone, and of one type. With `use_edns` the
- * message takes answers of up to 1232 bytes. Each refuses with 17 to 24. */
+ * Each writes the bytes of a message with this id, all of it: one that has no room in 65,535 bytes is refused with 32, and
+ * never cut. `origin` is the text of the zone's name, as `example.`; a set is the zone text of its records, as `www 300 A
+ * 192.0.2.1`: all of one owner, in the zone, of one type and of the class IN. With `use_edns` the message takes answers of
+ * up to 1232 bytes. Each refuses with 17 to 29, 31 and 32. */
 
 /* Creates a set, if the zone has none of that owner and type (2.4.3). */
 int64_t fuzsbanel_create(uint16_t id, const uint8_t *origin, size_t origin_len, const uint8_t *set, size_t set_len,
@@ -230,7 +243,8 @@ int64_t fuzsbanel_delete_all(uint16_t id, const uint8_t *origin, size_t origin_l
                              size_t owner_len, bool use_edns, uint8_t *out, size_t cap, size_t *needed);
 
 /* Asks for all of a zone (RFC 5936, 2.1), or for what changed since an SOA (RFC 1995, 3): zone text of one record at the
- * origin, as `@ 300 SOA ns hostmaster 1 7200 3600 1209600 300`; an empty text asks for all. */
+ * origin, as `@ 300 SOA ns hostmaster 1 7200 3600 1209600 300`; `last_soa_len` of 0 asks for all. Refuses as the updates
+ * do, with 30 where 29 would come. */
 int64_t fuzsbanel_zone_transfer(uint16_t id, const uint8_t *origin, size_t origin_len, const uint8_t *last_soa,
                                 size_t last_soa_len, uint8_t *out, size_t cap, size_t *needed);
 

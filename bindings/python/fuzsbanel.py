@@ -86,8 +86,15 @@ NAMES = {
     21: "a text that is no record type",
     22: "a type without a text form",
     23: "items that are no data, name or TTL",
-    24: "not UTF-8, or not one set within the zone",
-    25: "a record of the zone isn't of the class IN",
+    24: "a text that isn't UTF-8",
+    25: "a record that isn't of the class IN",
+    26: "an origin of no bytes, where a zone has to be named",
+    27: "the text of a set without a record, or with several owners or types",
+    28: "an owner outside the zone",
+    29: "a type that no update here is of",
+    30: "a record that isn't the zone's SOA",
+    31: "a name in data that is relative, which no message can have",
+    32: "an update or question of more than 65,535 bytes",
 }
 
 

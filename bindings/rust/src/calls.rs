@@ -197,5 +197,5 @@ pub fn filled(
 
 /// A text that a call wrote, which is UTF-8.
 pub fn text(bytes: Vec<u8>) -> Result<String, Error> {
-    String::from_utf8(bytes).map_err(|_| Error::Input)
+    String::from_utf8(bytes).map_err(|_| Error::NotUtf8)
 }

@@ -63,8 +63,15 @@ errors! {
     21 UnknownType "a text that is no record type",
     22 UnsupportedType "a type without a text form",
     23 BadText "items that are no data, name or TTL",
-    24 Input "not UTF-8, or not one set within the zone",
-    25 Class "a record of the zone isn't of the class IN",
+    24 NotUtf8 "a text that isn't UTF-8",
+    25 Class "a record that isn't of the class IN",
+    26 NoOrigin "an origin of no bytes, where a zone has to be named",
+    27 NotOneSet "the text of a set without a record, or with several owners or types",
+    28 Outside "an owner outside the zone",
+    29 Type "a type that no update here is of",
+    30 NotSoa "a record that isn't the zone's SOA",
+    31 NotOnWire "a name in data that is relative, which no message can have",
+    32 TooLong "an update or question of more than 65,535 bytes",
 }
 
 impl std::error::Error for Error {}

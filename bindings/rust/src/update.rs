@@ -23,7 +23,10 @@ macro_rules! built {
 ///
 /// # Errors
 ///
-/// The first fault of the texts; [`Error::Input`] for what isn't one set in the zone.
+/// The first fault of the texts; [`Error::NoOrigin`] for an empty origin; [`Error::Class`], [`Error::NotOneSet`],
+/// [`Error::Outside`] and [`Error::Type`] for what isn't one set of the class IN in the zone, of a type that updates can
+/// change; [`Error::NotOnWire`] for a relative name in data, and [`Error::TooLong`] for a message that has no room in
+/// 65,535 bytes.
 pub fn create(id: u16, origin: &str, set: &str, use_edns: bool) -> Result<Vec<u8>, Error> {
     built!(fuzsbanel_create, id, [origin, set], use_edns)
 }
@@ -76,7 +79,8 @@ pub fn delete_by_rdata(id: u16, origin: &str, set: &str, use_edns: bool) -> Resu
 ///
 /// # Errors
 ///
-/// [`Error::BadText`] for what is no name, [`Error::Input`] for an owner outside the zone.
+/// [`Error::NoOrigin`] for an empty origin, [`Error::BadText`] for what is no name, [`Error::Outside`] for an owner
+/// outside the zone, [`Error::Type`] for a type that no update here is of.
 pub fn delete_rrset(
     id: u16,
     origin: &str,
@@ -107,12 +111,11 @@ pub fn delete_all(id: u16, origin: &str, owner: &str, use_edns: bool) -> Result<
 ///
 /// # Errors
 ///
-/// [`Error::BadText`] for an origin that is no name; what the parser refuses; [`Error::Input`] for a text that is not
-/// one SOA at the origin.
+/// Those of [`create`], but [`Error::NotSoa`] for a record that isn't an SOA at the origin.
 pub fn zone_transfer(id: u16, origin: &str, last_soa: Option<&str>) -> Result<Vec<u8>, Error> {
     let last = last_soa.unwrap_or("");
     if last_soa.is_some() && last.is_empty() {
-        return Err(Error::Input);
+        return Err(Error::NotOneSet);
     }
     built!(fuzsbanel_zone_transfer, id, [origin, last],)
 }

@@ -235,29 +235,59 @@ fn every_builder_changes_its_set() {
         fuzsbanel::zone_transfer(6, "example.", Some(soa)).as_deref(),
         Ok(&changes[..])
     );
-    for other in ["", "www 300 A 192.0.2.1\n", "sub 300 SOA a b 1 2 3 4 5\n"] {
+    for (other, error) in [
+        ("", Error::NotOneSet),
+        ("www 300 A 192.0.2.1\n", Error::NotSoa),
+        ("sub 300 SOA a b 1 2 3 4 5\n", Error::NotSoa),
+    ] {
         assert_eq!(
             fuzsbanel::zone_transfer(6, "example.", Some(other)),
-            Err(Error::Input)
+            Err(error)
         );
     }
 }
 
 #[test]
 fn what_is_not_one_set_in_the_zone_is_refused() {
-    for set in [
-        "",
-        "www 300 A 192.0.2.2\nftp 300 A 192.0.2.3\n",
-        "www.example.org. 300 A 192.0.2.2\n",
+    for (set, error) in [
+        ("", Error::NotOneSet),
+        (
+            "www 300 A 192.0.2.2\nftp 300 A 192.0.2.3\n",
+            Error::NotOneSet,
+        ),
+        ("www.example.org. 300 A 192.0.2.2\n", Error::Outside),
+        ("www 300 CH A 192.0.2.2\n", Error::Class),
+        ("@ 300 SOA ns hostmaster 1 2 3 4 5\n", Error::Type),
+        ("$ORIGIN a\nwww.example. 300 MX 10 @\n", Error::NotOnWire),
     ] {
         assert_eq!(
             fuzsbanel::create(1, "example.", set, false),
-            Err(Error::Input)
+            Err(error)
         );
     }
     assert_eq!(
         fuzsbanel::delete_all(1, "example.", "www.example.org.", false),
-        Err(Error::Input)
+        Err(Error::Outside)
+    );
+    assert_eq!(
+        fuzsbanel::delete_all(1, "", "www", false),
+        Err(Error::NoOrigin)
+    );
+}
+
+#[test]
+fn no_update_is_cut() {
+    let addresses = |count: u16| -> String {
+        (0..count)
+            .map(|i| format!("www 300 A 10.0.{}.{}\n", i / 256, i % 256))
+            .collect()
+    };
+    // 41 bytes before the records, and 16 for each
+    let whole = fuzsbanel::create(1, "example.", &addresses(4093), false);
+    assert_eq!(whole.map(|bytes| bytes.len()), Ok(41 + 16 * 4093));
+    assert_eq!(
+        fuzsbanel::create(1, "example.", &addresses(4094), false),
+        Err(Error::TooLong)
     );
 }
 

@@ -3,7 +3,7 @@ use Rattle.std.proofs.Common.{◌∙◌, ◌<◌, ◌≤◌, inl, inr, ap, arith
 use Rattle.std.proofs.lemmas.List.{take_at}
 use Rattle.std.specs.Prelude.{IfOk, Vec, ℤ}
 use Rattle.std.specs.declared.alloc.Global.{Global}
-use Rattle.capi.specs.Answer.{IsLeft, bytes_made}
+use Rattle.capi.specs.Answer.{Asked, IsAnsweredBy, IsLeft, MakesBy, bytes_made}
 use Rattle.capi.specs.declared.refusal.Refusal.{Refusal}
 
 -- what holds of the bytes that were made holds of those that were put into a buffer with room for them
@@ -13,3 +13,9 @@ put_holds P (Ok bytes) old new needed result holds (inl put) some room =
     subst P (sym (ap (take needed) put.put ∙ take_at bytes.items (drop (length bytes.items) old) needed (sym put.needs))) holds
 put_holds P (Ok bytes) old new needed result holds (inr none) some room = let small = none.small in let needs = none.needs in absurd (search arith)
 put_holds P (Err refusal) old new needed result holds none some room = let needs = none.needs in absurd (search arith)
+
+-- what was made of what was asked for is answered by what is left of it
+pub answered_by : (Comes : Asked (List ℕ) → Type 0) (made : Result (Vec ℕ Global) Refusal) (old new : List ℕ) (needed : ℕ) (result : ℤ)
+    → MakesBy Comes made → IsLeft (bytes_made made) old new needed result → IsAnsweredBy Comes old new needed result
+answered_by Comes made old new needed result (inl comes) left = inl (bytes_made made, comes, left)
+answered_by Comes made old new needed result (inr memory) left = inr (subst (λ m. IsLeft m old new needed result) memory left)

@@ -1,5 +1,7 @@
 mod AnswerLemmas
 mod ApplyLemmas
 mod MessageLemmas
+mod SentLemmas
+mod SoundLemmas
 mod TextLemmas
 mod WalkLemmas

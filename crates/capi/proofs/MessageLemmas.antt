@@ -8,7 +8,6 @@ use Rattle.op.specs.Message.{IsMessageAt, MessageValue}
 use Rattle.op.specs.MessageWritten.{message_answer}
 use Rattle.capi.specs.Answer.{◌>>=◌, read, written}
 use Rattle.capi.specs.Message.{cut_of}
-use Rattle.capi.specs.Update.{sent}
 
 -- a cut is what is written of the message that stands
 pub cut_written : (bytes : List ℕ) (limit : ℕ) (m : MessageValue) (e : ℕ) (made : Result (List ℕ) ProtoError) → IsMessageAt bytes 0 m e
@@ -22,9 +21,3 @@ pub cut_refused : (bytes : List ℕ) (limit : ℕ) (m : MessageValue) (e : ℕ) 
     → (proto_number refusal ≡ 3) ⊎ (cut_of bytes limit ≡ Err (proto_number refusal))
 cut_refused bytes limit m e refusal stands (inl memory) = inl (ap proto_number memory)
 cut_refused bytes limit m e refusal stands (inr is) = inr (cut_written bytes limit m e (Err refusal) stands is)
-
--- a message that isn't written is refused with that number
-pub sent_refused : (m : MessageValue) (refusal : ProtoError) → (refusal ≡ refusals.Memory) ⊎ (message_answer 65535 m ≡ Err refusal)
-    → (proto_number refusal ≡ 3) ⊎ (sent m ≡ Err (proto_number refusal))
-sent_refused m refusal (inl memory) = inl (ap proto_number memory)
-sent_refused m refusal (inr is) = inr (ap written is)

@@ -51,6 +51,10 @@ abbrev pub Makes : {X A : Type 0} → (X → A) → Asked A → Result X Refusal
 Makes view asked (Ok x) = asked ≡ Ok (view x)
 Makes view asked (Err refusal) = (refusal.number ≡ 3) ⊎ (asked ≡ Err refusal.number)
 
+-- What was made comes of the call, by this relation; or memory ran out.
+abbrev pub MakesBy : (Asked (List ℕ) → Type 0) → Result (Vec ℕ Global) Refusal → Type 0
+MakesBy Comes made = Comes (bytes_made made) ⊎ (bytes_made made ≡ Err 3)
+
 -- ---- what the caller is left with
 
 -- The bytes stand at the front of the caller's buffer, whose rest stays; their number is answered, and what they need.
@@ -92,3 +96,9 @@ IsAnswered asked old new needed result = IsLeft asked old new needed result
 -- The number that was asked for is answered, or refusal 3 because memory ran out.
 abbrev pub IsNumbered : Asked ℕ → ℤ → Type 0
 IsNumbered asked result = IsNumber asked result ⊎ (result ≡ neg_ℤ (pos 3))
+
+-- What comes of the call, by this relation, is left, or refusal 3 because memory ran out.
+abbrev pub IsAnsweredBy : (Asked (List ℕ) → Type 0) → List ℕ → List ℕ → ℕ → ℤ → Type 0
+IsAnsweredBy Comes old new needed result =
+    ((made : Asked (List ℕ)) × Comes made × IsLeft made old new needed result)
+    ⊎ IsTurnedAway 3 old new needed result

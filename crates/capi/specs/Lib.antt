@@ -2,6 +2,7 @@ pub mod Answer
 pub mod Applied
 pub mod Header
 pub mod Message
+pub mod Refusals
 pub mod Update
 pub mod Walk
 pub mod WalkWhole

@@ -1,5 +1,5 @@
 -- What calls on zone text are asked for.
-use Rattle.std.specs.Prelude.{ℕ, List, [], ◌∷◌, if◌then◌else◌, Option, Some, None, Ok, Err}
+use Rattle.std.specs.Prelude.{ℕ, List, [], ◌∷◌, if◌then◌else◌, Option, Some, None, Ok, Err, true}
 use Rattle.std.specs.Str.{is_utf8}
 use Rattle.base.specs.Labels.{NameValue}
 use Rattle.base.specs.NameOf.{name_of}
@@ -8,14 +8,20 @@ use Rattle.parsed_zone.specs.Faults.{numbered}
 use Rattle.parsed_zone.specs.ZoneText.{zone_lines, zone_of_bytes}
 use Rattle.txt.specs.Zone.{no_texts}
 use Rattle.capi.specs.Answer.{Asked, ◌>>=◌}
+use Rattle.capi.specs.Refusals.{no_origin, not_utf8}
 
--- a text of characters; 24 for any other
+-- a text of characters
 abbrev pub characters : List ℕ → Asked (List ℕ)
-characters text = if is_utf8 text then Ok text else Err 24
+characters text = if is_utf8 text then Ok text else Err not_utf8
 
 -- the name of a text
 abbrev pub name_of_text : List ℕ → Asked NameValue
 name_of_text text = characters text >>= λ chars. numbered (name_of chars None)
+
+-- the name of a zone: the name of a text, as an absolute one
+abbrev pub zone_name_of : List ℕ → Asked NameValue
+zone_name_of [] = Err no_origin
+zone_name_of (c ∷ cs) = name_of_text (c ∷ cs) >>= λ name. Ok (record name { absolute = true })
 
 -- the origin that a text names; none of an empty text
 abbrev pub origin_of_text : List ℕ → Asked (Option NameValue)

@@ -18,8 +18,32 @@ pub struct Refusal {
 }
 
 impl Refusal {
-    /// The text or the set isn't what the call takes.
-    pub const INPUT: Refusal = Refusal { number: 24 };
+    /// A text isn't UTF-8.
+    pub const NOT_UTF8: Refusal = Refusal { number: 24 };
+
+    /// A record isn't of the class IN.
+    pub const CLASS: Refusal = Refusal { number: 25 };
+
+    /// No zone is named: the origin has no bytes.
+    pub const NO_ORIGIN: Refusal = Refusal { number: 26 };
+
+    /// The text of a set has no record, or records of several owners or types.
+    pub const NOT_ONE_SET: Refusal = Refusal { number: 27 };
+
+    /// The owner isn't in the zone.
+    pub const OUTSIDE: Refusal = Refusal { number: 28 };
+
+    /// No update here is of this type.
+    pub const TYPE: Refusal = Refusal { number: 29 };
+
+    /// The record isn't the SOA of the zone.
+    pub const NOT_SOA: Refusal = Refusal { number: 30 };
+
+    /// The message can't stand on the wire: data has a relative name.
+    pub const NOT_ON_WIRE: Refusal = Refusal { number: 31 };
+
+    /// The message has more than 65,535 bytes.
+    pub const TOO_LONG: Refusal = Refusal { number: 32 };
 }
 
 impl From<AllocError> for Refusal {

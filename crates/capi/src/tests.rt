@@ -1,5 +1,7 @@
 //! Each export that reads messages, over the worked messages (bindings/worked/messages) and what RFC 1035 says of them.
 
+mod updates;
+
 use crate::header::{HeaderNumbers, fuzsbanel_header};
 use crate::message::{fuzsbanel_check, fuzsbanel_cut, fuzsbanel_text};
 use crate::walk::whole::{Item, RoomNeeded, fuzsbanel_walk};

@@ -1,10 +1,13 @@
 //! Messages that ask a server to update a zone, for all of it, or for what changed (RFC 2136, 2; RFC 5936; RFC 1995).
 //!
-//! The origin is the text of the zone's name, and a set the zone text of its records: one set, whose owner lies in the
-//! zone. Each message has the class IN, and with `use_edns` takes answers of up to 1232 bytes.
+//! The origin is the text of the zone's name, and a set the zone text of its records: one set of the class IN, whose owner
+//! lies in the zone, of a type that updates can change. Each message is written whole or not at all, and with `use_edns`
+//! takes answers of up to 1232 bytes.
 
-ghost use Rattle.capi.specs.Answer.{IsAnswered};
-ghost use Rattle.capi.specs.Update.{append_of, create_of, delete_all_of, delete_data_of, delete_set_of, swap_of, transfer_of};
+ghost use Rattle.std.specs.Prelude.{◌<◌, ◌≤◌, length, take};
+ghost use Rattle.capi.specs.Answer.{IsAnsweredBy};
+ghost use Rattle.capi.specs.Update.{IsSent, IsUpdate, transfer_asked, update_asked};
+ghost use Rattle.capi.specs.declared.update.built.Change.TheVariants as changes;
 
 mod built;
 mod sets;
@@ -18,7 +21,9 @@ use std::alloc::Global;
 ///
 /// # Errors
 ///
-/// 24 for a text that isn't UTF-8, or isn't one set in the zone; and the number of what the parser refuses.
+/// 26 for an origin without bytes; 24 for a text that isn't UTF-8, and the number of what the parser refuses; 25 for a
+/// record of another class than IN, 27 for a text that isn't one set, 28 for an owner outside the zone, 29 for a type that
+/// no update here is of; 31 for data with a relative name, and 32 for a message of more than 65,535 bytes.
 #[unsafe(no_mangle)]
 pub extern "C" fn fuzsbanel_create(
     alloc: Global,
@@ -29,8 +34,12 @@ pub extern "C" fn fuzsbanel_create(
     out: &mut [u8],
     needed: &mut usize,
 ) -> i64
-    ensures { IsAnswered (create_of id origin.now set.now use_edns)
+    ensures sent { IsAnsweredBy (IsSent (update_asked id use_edns origin.now
+        (changes.Create set.entry)))
         out.old out.new needed.new result }
+    // Bytes that the caller's buffer has room for are all of that update, and mean this.
+    ensures update { 0 < needed.new → needed.new ≤ length out.old
+        → IsUpdate origin.now (changes.Create set.entry) (take needed.new out.new) }
 {
     let change = Change::Create(set);
     give(update(alloc, id, origin, change, use_edns), out, needed)
@@ -53,8 +62,12 @@ pub extern "C" fn fuzsbanel_append(
     out: &mut [u8],
     needed: &mut usize,
 ) -> i64
-    ensures { IsAnswered (append_of id origin.now set.now must_exist use_edns)
+    ensures sent { IsAnsweredBy (IsSent (update_asked id use_edns origin.now
+        (changes.Append set.entry must_exist)))
         out.old out.new needed.new result }
+    // Bytes that the caller's buffer has room for are all of that update, and mean this.
+    ensures update { 0 < needed.new → needed.new ≤ length out.old
+        → IsUpdate origin.now (changes.Append set.entry must_exist) (take needed.new out.new) }
 {
     let change = Change::Append(set, must_exist);
     give(update(alloc, id, origin, change, use_edns), out, needed)
@@ -77,8 +90,12 @@ pub extern "C" fn fuzsbanel_compare_and_swap(
     out: &mut [u8],
     needed: &mut usize,
 ) -> i64
-    ensures { IsAnswered (swap_of id origin.now current.now next.now use_edns)
+    ensures sent { IsAnsweredBy (IsSent (update_asked id use_edns origin.now
+        (changes.CompareAndSwap current.entry next.entry)))
         out.old out.new needed.new result }
+    // Bytes that the caller's buffer has room for are all of that update, and mean this.
+    ensures update { 0 < needed.new → needed.new ≤ length out.old
+        → IsUpdate origin.now (changes.CompareAndSwap current.entry next.entry) (take needed.new out.new) }
 {
     let change = Change::CompareAndSwap(current, next);
     give(update(alloc, id, origin, change, use_edns), out, needed)
@@ -99,8 +116,11 @@ pub extern "C" fn fuzsbanel_delete_by_rdata(
     out: &mut [u8],
     needed: &mut usize,
 ) -> i64
-    ensures { IsAnswered (delete_data_of id origin.now set.now use_edns)
-        out.old out.new needed.new result }
+    ensures sent { IsAnsweredBy (IsSent (update_asked id use_edns origin.now
+        (changes.DeleteByRdata set.entry))) out.old out.new needed.new result }
+    // Bytes that the caller's buffer has room for are all of that update, and mean this.
+    ensures update { 0 < needed.new → needed.new ≤ length out.old
+        → IsUpdate origin.now (changes.DeleteByRdata set.entry) (take needed.new out.new) }
 {
     let change = Change::DeleteByRdata(set);
     give(update(alloc, id, origin, change, use_edns), out, needed)
@@ -111,7 +131,8 @@ pub extern "C" fn fuzsbanel_delete_by_rdata(
 ///
 /// # Errors
 ///
-/// 24 for a text that isn't UTF-8, and for an owner outside the zone; 23 for a text that is no name.
+/// 26 for an origin without bytes; 24 for a text that isn't UTF-8, 23 for one that is no name; 28 for an owner outside the
+/// zone, and 29 for a type that no update here is of.
 #[unsafe(no_mangle)]
 pub extern "C" fn fuzsbanel_delete_rrset(
     alloc: Global,
@@ -123,8 +144,12 @@ pub extern "C" fn fuzsbanel_delete_rrset(
     out: &mut [u8],
     needed: &mut usize,
 ) -> i64
-    ensures { IsAnswered (delete_set_of id origin.now owner.now record_type use_edns)
+    ensures sent { IsAnsweredBy (IsSent (update_asked id use_edns origin.now
+        (changes.DeleteRrset owner.entry record_type)))
         out.old out.new needed.new result }
+    // Bytes that the caller's buffer has room for are all of that update, and mean this.
+    ensures update { 0 < needed.new → needed.new ≤ length out.old
+        → IsUpdate origin.now (changes.DeleteRrset owner.entry record_type) (take needed.new out.new) }
 {
     let change = Change::DeleteRrset(owner, record_type);
     give(update(alloc, id, origin, change, use_edns), out, needed)
@@ -146,8 +171,12 @@ pub extern "C" fn fuzsbanel_delete_all(
     out: &mut [u8],
     needed: &mut usize,
 ) -> i64
-    ensures { IsAnswered (delete_all_of id origin.now owner.now use_edns)
+    ensures sent { IsAnsweredBy (IsSent (update_asked id use_edns origin.now
+        (changes.DeleteAll owner.entry)))
         out.old out.new needed.new result }
+    // Bytes that the caller's buffer has room for are all of that update, and mean this.
+    ensures update { 0 < needed.new → needed.new ≤ length out.old
+        → IsUpdate origin.now (changes.DeleteAll owner.entry) (take needed.new out.new) }
 {
     let change = Change::DeleteAll(owner);
     give(update(alloc, id, origin, change, use_edns), out, needed)
@@ -159,8 +188,7 @@ pub extern "C" fn fuzsbanel_delete_all(
 ///
 /// # Errors
 ///
-/// 24 for a text that isn't UTF-8, and for one that is another record, or more of them; 23 for an origin that is no
-/// name; and the number of what the parser refuses.
+/// Those of `fuzsbanel_create`, but 30 for a record that isn't an SOA of the origin, of whatever type it is.
 #[unsafe(no_mangle)]
 pub extern "C" fn fuzsbanel_zone_transfer(
     alloc: Global,
@@ -170,7 +198,7 @@ pub extern "C" fn fuzsbanel_zone_transfer(
     out: &mut [u8],
     needed: &mut usize,
 ) -> i64
-    ensures { IsAnswered (transfer_of id origin.now last_soa.now)
+    ensures { IsAnsweredBy (IsSent (transfer_asked id origin.now last_soa.now))
         out.old out.new needed.new result }
 {
     give(transfer(alloc, id, origin, last_soa), out, needed)

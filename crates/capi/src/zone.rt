@@ -3,7 +3,7 @@
 ghost use Rattle.std.specs.Prelude.{◌≡◌, IfOk};
 ghost use Rattle.txt.specs.ZoneSets.{AreKeyed};
 ghost use Rattle.capi.specs.Answer.{IsAnswered, Makes};
-ghost use Rattle.capi.specs.ZoneText.{canonical_text, characters, name_of_text, origin_of_text, zone_of_text};
+ghost use Rattle.capi.specs.ZoneText.{canonical_text, characters, name_of_text, origin_of_text, zone_name_of, zone_of_text};
 
 use crate::answer::give;
 use crate::refusal::Refusal;
@@ -82,6 +82,22 @@ pub fn name_of(alloc: Global, text: &[u8]) -> Result<Name, Refusal>
     Ok(Name::parse(alloc, text, None)?)
 }
 
+/// The name of a zone, as of an absolute name.
+///
+/// # Errors
+///
+/// 26 for no bytes, and those of `name_of`.
+pub fn zone_name_of(alloc: Global, text: &[u8]) -> Result<Name, Refusal>
+    ensures { Makes (λ name. name) (zone_name_of text.now) result }
+{
+    if text.is_empty() {
+        return Err(Refusal::NO_ORIGIN);
+    }
+    let mut name = name_of(alloc, text)?;
+    name.set_fqdn(true);
+    Ok(name)
+}
+
 /// The characters of a text.
 ///
 /// # Errors
@@ -92,6 +108,6 @@ pub fn characters_of(text: &[u8]) -> Result<&str, Refusal>
 {
     match str::from_utf8(text) {
         Ok(text) => Ok(text),
-        Err(_) => Err(Refusal::INPUT),
+        Err(_) => Err(Refusal::NOT_UTF8),
     }
 }

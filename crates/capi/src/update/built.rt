@@ -1,14 +1,15 @@
 //! The bytes of the messages that are built of texts.
 
-ghost use Rattle.std.specs.Prelude.{◌≡◌};
+ghost use Rattle.std.specs.Prelude.{IfOk, Ok};
 ghost use Rattle.op.specs.Message.{message_value};
-ghost use Rattle.capi.specs.Answer.{Makes};
-ghost use Rattle.capi.specs.Update.{asked_of, change_asked, sent, transfer_of};
+ghost use Rattle.capi.specs.Answer.{Makes, MakesBy};
+ghost use Rattle.capi.specs.Update.{IsSent, IsUpdate, IsWhole, Means, change_asked, transfer_asked, update_asked};
 
 use crate::refusal::Refusal;
-use crate::update::sets::{origin_of, owner_in, set_in, soa_in};
-use base::{DNSClass, Name, RecordType};
-use op::Message;
+use crate::update::sets::{of_type, owner_in, set_in, soa_in};
+use crate::zone::zone_name_of;
+use base::{BinDecodable, BinDecoder, DNSClass, Name, RecordType};
+use op::{Header, Message};
 use op_use::update_message as builders;
 use rr::Record;
 use std::alloc::Global;
@@ -30,7 +31,7 @@ pub enum Change<'a> {
     DeleteAll(&'a [u8]),
 }
 
-/// The bytes of the update of a zone.
+/// The bytes of the update of a zone, all of it.
 pub fn update(
     alloc: Global,
     id: u16,
@@ -38,11 +39,12 @@ pub fn update(
     change: Change,
     use_edns: bool,
 ) -> Result<Vec<u8>, Refusal>
-    ensures { Makes (λ bytes. bytes.items)
-        (asked_of origin.now (change_asked id use_edns change.entry)) result }
+    ensures sent { MakesBy (IsSent (update_asked id use_edns origin.now change.entry)) result }
+    ensures update { IfOk result (λ bytes. IsUpdate origin.now change.entry bytes.items) }
 {
-    let zone = origin_of(alloc, origin)?;
-    bytes_of(&message(alloc, id, zone, change, use_edns)?)
+    let zone = zone_name_of(alloc, origin)?;
+    let message = message(alloc, id, zone, change, use_edns)?;
+    whole_bytes(alloc, &message)
 }
 
 /// The update of a zone of this name.
@@ -53,7 +55,8 @@ fn message(
     change: Change,
     use_edns: bool,
 ) -> Result<Message, Refusal>
-    ensures { Makes message_value (change_asked id use_edns change.entry zone) result }
+    ensures made { Makes message_value (change_asked id use_edns change.entry zone) result }
+    ensures means { IfOk result (λ m. Means change.entry zone (message_value m)) }
 {
     match change {
         Change::Create(set) => {
@@ -75,7 +78,7 @@ fn message(
         }
         Change::DeleteRrset(owner, record_type) => {
             let owner = owner_in(alloc, &zone, owner)?;
-            let entry = Record::update0(owner, 0, RecordType::from(record_type));
+            let entry = Record::update0(owner, 0, of_type(RecordType::from(record_type))?);
             Ok(builders::delete_rrset(alloc, id, entry, zone, use_edns)?)
         }
         Change::DeleteAll(owner) => {
@@ -87,16 +90,25 @@ fn message(
 
 /// The bytes of the question for all of a zone, or for what changed since the SOA of a text.
 pub fn transfer(alloc: Global, id: u16, origin: &[u8], last_soa: &[u8]) -> Result<Vec<u8>, Refusal>
-    ensures { Makes (λ bytes. bytes.items) (transfer_of id origin.now last_soa.now) result }
+    ensures { MakesBy (IsSent (transfer_asked id origin.now last_soa.now)) result }
 {
-    let zone = origin_of(alloc, origin)?;
+    let zone = zone_name_of(alloc, origin)?;
     let last = soa_in(alloc, &zone, last_soa)?;
-    bytes_of(&builders::zone_transfer(alloc, id, zone, last)?)
+    whole_bytes(alloc, &builders::zone_transfer(alloc, id, zone, last)?)
 }
 
-/// The bytes of a message.
-fn bytes_of(message: &Message) -> Result<Vec<u8>, Refusal>
-    ensures { Makes (λ bytes. bytes.items) (sent (message_value message.now)) result }
+/// The bytes of a message, if it fits the wire and nothing of it is cut off.
+fn whole_bytes(alloc: Global, message: &Message) -> Result<Vec<u8>, Refusal>
+    ensures sent { MakesBy (IsSent (Ok (message_value message.now))) result }
+    ensures whole { IfOk result (λ bytes. IsWhole (message_value message.now) bytes.items) }
 {
-    Ok(message.to_vec()?)
+    if !message.fits_wire() {
+        return Err(Refusal::NOT_ON_WIRE);
+    }
+    let bytes = message.to_vec()?;
+    let header = Header::read(&mut BinDecoder::new(alloc, &bytes))?;
+    if header.metadata.truncation {
+        return Err(Refusal::TOO_LONG);
+    }
+    Ok(bytes)
 }

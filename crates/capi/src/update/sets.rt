@@ -2,36 +2,57 @@
 
 ghost use Rattle.std.specs.Prelude.{◌≡◌, IfOk, true};
 ghost use Rattle.base.specs.NameOrder.{is_zone_of};
+ghost use Rattle.op_use.specs.SoundSet.{IsSound};
+ghost use Rattle.txt.specs.ZoneSets.{AreKeyed};
+ghost use Rattle.parsed_zone.specs.Classes.{are_sets_in};
 ghost use Rattle.capi.specs.Answer.{Makes};
-ghost use Rattle.capi.specs.Update.{only_set, owner_of_text, set_of_text, soa_in_data, soa_of_text, within, zone_name_of};
+ghost use Rattle.capi.specs.Update.{of_type, one_set, only_set, owner_of_text, set_of_text, soa_in_data, soa_of_text, within};
 
 use crate::refusal::Refusal;
-use crate::zone::{characters_of, name_of};
-use base::{Name, RrKey};
+use crate::zone::characters_of;
+use base::{Name, RecordType, RrKey};
 use base_data::{RData, SOA};
-use parsed_zone::zone_of_bytes;
+use op_use::is_supported_type;
+use parsed_zone::{are_sets_in, zone_of_bytes};
 use rr::RecordSet;
 use std::alloc::Global;
 use std::collections::BTreeMap;
 
-/// The name of a zone, as of an absolute name.
-pub fn origin_of(alloc: Global, text: &[u8]) -> Result<Name, Refusal>
-    ensures { Makes (λ name. name) (zone_name_of text.now) result }
-{
-    let mut name = name_of(alloc, text)?;
-    name.set_fqdn(true);
-    Ok(name)
-}
-
-/// The one set that zone text has, if its owner lies in the zone.
+/// The one set that zone text has, if its owner lies in the zone and updates can change its type.
 pub fn set_in(alloc: Global, origin: &Name, text: &[u8]) -> Result<RecordSet, Refusal>
     ensures made { Makes (λ set. set) (set_of_text origin.now text.now) result }
     // The set's owner lies in the zone.
     ensures within { IfOk result (λ set. is_zone_of origin.now set.name ≡ true) }
+    // Its records have its owner, type and class, and no two of them have equal data.
+    ensures sound { IfOk result (λ set. IsSound set) }
+{
+    let set = one_set(alloc, origin, text)?;
+    of_type(set.record_type())?;
+    Ok(set)
+}
+
+/// The one set of the class IN that zone text has, if its owner lies in the zone.
+fn one_set(alloc: Global, origin: &Name, text: &[u8]) -> Result<RecordSet, Refusal>
+    ensures made { Makes (λ set. set) (one_set origin.now text.now) result }
+    ensures within { IfOk result (λ set. is_zone_of origin.now set.name ≡ true) }
+    ensures sound { IfOk result (λ set. IsSound set) }
 {
     let (_origin, sets) = zone_of_bytes(alloc, Some(origin.clone()?), text)?;
+    if !are_sets_in(&sets) {
+        return Err(Refusal::CLASS);
+    }
     let set = only_set(sets)?;
     within(origin, set)
+}
+
+/// A type that updates can change.
+pub fn of_type(record_type: RecordType) -> Result<RecordType, Refusal>
+    ensures { Makes (λ type. type) (of_type record_type) result }
+{
+    if !is_supported_type(record_type) {
+        return Err(Refusal::TYPE);
+    }
+    Ok(record_type)
 }
 
 /// The name of a text that lies in the zone; a relative one ends in the origin.
@@ -43,7 +64,7 @@ pub fn owner_in(alloc: Global, origin: &Name, text: &[u8]) -> Result<Name, Refus
     let text = characters_of(text)?;
     let owner = Name::parse(alloc, text, Some(origin))?;
     if !origin.zone_of(&owner) {
-        return Err(Refusal::INPUT);
+        return Err(Refusal::OUTSIDE);
     }
     Ok(owner)
 }
@@ -55,13 +76,13 @@ pub fn soa_in(alloc: Global, origin: &Name, text: &[u8]) -> Result<Option<SOA>, 
     if text.is_empty() {
         return Ok(None);
     }
-    let set = set_in(alloc, origin, text)?;
+    let set = one_set(alloc, origin, text)?;
     if *set.name() != *origin {
-        return Err(Refusal::INPUT);
+        return Err(Refusal::NOT_SOA);
     }
     match set.record() {
         Some(first) => soa_of(&first.rdata),
-        None => Err(Refusal::INPUT),
+        None => Err(Refusal::NOT_SOA),
     }
 }
 
@@ -71,19 +92,22 @@ fn soa_of(rdata: &RData) -> Result<Option<SOA>, Refusal>
 {
     match rdata {
         RData::SOA(soa) => Ok(Some(soa.clone()?)),
-        _ => Err(Refusal::INPUT),
+        _ => Err(Refusal::NOT_SOA),
     }
 }
 
 /// The set, if there is exactly one.
 fn only_set(mut sets: BTreeMap<RrKey, RecordSet>) -> Result<RecordSet, Refusal>
-    ensures { Makes (λ set. set) (only_set sets.entries) result }
+    requires keyed { AreKeyed sets.entries }
+    requires class { are_sets_in sets.entries ≡ true }
+    ensures made { Makes (λ set. set) (only_set sets.entries) result }
+    ensures sound { IfOk result (λ set. IsSound set) }
 {
     let Some((_key, set)) = sets.pop_first() else {
-        return Err(Refusal::INPUT);
+        return Err(Refusal::NOT_ONE_SET);
     };
     if !sets.is_empty() {
-        return Err(Refusal::INPUT);
+        return Err(Refusal::NOT_ONE_SET);
     }
     Ok(set)
 }
@@ -91,11 +115,12 @@ fn only_set(mut sets: BTreeMap<RrKey, RecordSet>) -> Result<RecordSet, Refusal>
 /// The set, if its owner lies in the zone.
 fn within(origin: &Name, set: RecordSet) -> Result<RecordSet, Refusal>
     ensures made { Makes (λ set. set) (within origin.now set) result }
-    // The set's owner lies in the zone.
+    // It is the set that was handed in.
+    ensures same { IfOk result (λ found. found ≡ set) }
     ensures within { IfOk result (λ set. is_zone_of origin.now set.name ≡ true) }
 {
     if !origin.zone_of(set.name()) {
-        return Err(Refusal::INPUT);
+        return Err(Refusal::OUTSIDE);
     }
     Ok(set)
 }

@@ -1,0 +1,38 @@
+-- The numbers of refusals of these calls alone (docs/REFUSALS.md has all).
+use Rattle.std.specs.Prelude.{ℕ}
+
+-- a text isn't UTF-8
+abbrev pub not_utf8 : ℕ
+not_utf8 = 24
+
+-- a record isn't of the class IN
+abbrev pub other_class : ℕ
+other_class = 25
+
+-- no zone is named: the origin has no bytes
+abbrev pub no_origin : ℕ
+no_origin = 26
+
+-- the text of a set has no record, or records of several owners or types
+abbrev pub not_one_set : ℕ
+not_one_set = 27
+
+-- the owner isn't in the zone
+abbrev pub outside : ℕ
+outside = 28
+
+-- no update here is of this type
+abbrev pub other_type : ℕ
+other_type = 29
+
+-- the record isn't the SOA of the zone
+abbrev pub not_soa : ℕ
+not_soa = 30
+
+-- the message can't stand on the wire
+abbrev pub not_on_wire : ℕ
+not_on_wire = 31
+
+-- the message has more than 65,535 bytes
+abbrev pub too_long : ℕ
+too_long = 32
