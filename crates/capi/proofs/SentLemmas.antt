@@ -1,11 +1,14 @@
 -- What is written of a message, as TC of its header says: all of it, or a part.
 use Rattle.std.proofs.Common.{Bool, Err, IsTrue, List, Ok, Result, [], ap, false, inl, inr, refl, rules, subst, sym, true, ℕ, ◌∷◌, ◌≡◌, ◌⊎◌, ◌∙◌}
-use Rattle.std.specs.Prelude.{Option, None, Some, Vec, ◌||◌}
+use Rattle.std.specs.Prelude.{Option, None, Some, Vec, if◌then◌else◌, ◌||◌}
 use Rattle.std.specs.declared.alloc.Global.{Global}
+use Rattle.base.specs.Labels.{NameValue}
 use Rattle.base.specs.ProtoError.{proto_number}
 use Rattle.base.specs.Reading.{Read}
 use Rattle.base.specs.declared.error.proto_error.ProtoError.{ProtoError}
 use Rattle.base.specs.declared.error.proto_error.ProtoError.TheVariants as refusals
+use Rattle.base.specs.declared.record_type.RecordType.{RecordType}
+use Rattle.base_data.specs.declared.rdata.soa.SOA.{SOA}
 use Rattle.op.proofs.HeaderReading.{reads_word}
 use Rattle.op.specs.Cut.{IsUncut, IsWritten, any_lost}
 use Rattle.op.specs.Fits.{Fits}
@@ -15,9 +18,12 @@ use Rattle.op.specs.MessageWritten.{message_answer}
 use Rattle.op.specs.declared.edns.Edns.{Edns}
 use Rattle.op.specs.declared.header.Header.{Header}
 use Rattle.op.specs.declared.header.metadata.Metadata.{Metadata}
-use Rattle.capi.specs.Answer.{Asked, MakesBy, written}
-use Rattle.capi.specs.Update.{IsCutShort, IsSent, IsWhole}
+use Rattle.op_use.specs.SoundSet.{is_supported_type}
+use Rattle.op_use.specs.UpdateMessage.{transfer_message}
+use Rattle.capi.specs.Answer.{Asked, ◌>>=◌, MakesBy, written}
+use Rattle.capi.specs.Update.{IsCutShort, IsSent, IsWhole, asked_of, of_type, soa_of_text, transfer_of}
 use Rattle.capi.specs.Update.IsSent.{refused, unwritten}
+use Rattle.capi.specs.ZoneText.{zone_name_of}
 use Rattle.capi.specs.declared.refusal.Refusal.{Refusal}
 
 -- what isn't written of a message is refused with that number, or memory ran out
@@ -41,6 +47,37 @@ pub unasked : (asked : Asked MessageValue) (number : ℕ) → (number ≡ 3) ⊎
 unasked asked number (inl memory) = inr (ap (λ x. Err x) memory)
 unasked asked number (inr is) = inl (refused is)
 
+-- what a message of a zone is asked for, where the zone has a name, and where it has none
+pub asked_named : (origin : List ℕ) (build : NameValue → Asked MessageValue) (zone : NameValue) (made : Asked MessageValue)
+    → zone_name_of origin ≡ Ok zone → build zone ≡ made → asked_of origin build ≡ made
+asked_named origin build zone made named is = ap (λ z. ◌>>=◌ {A = NameValue} {B = MessageValue} z build) named ∙ is
+
+pub asked_unbuilt : (origin : List ℕ) (build : NameValue → Asked MessageValue) (zone : NameValue) (number : ℕ)
+    → zone_name_of origin ≡ Ok zone → (number ≡ 3) ⊎ (build zone ≡ Err number) → (number ≡ 3) ⊎ (asked_of origin build ≡ Err number)
+asked_unbuilt origin build zone number named (inl memory) = inl memory
+asked_unbuilt origin build zone number named (inr is) = inr (asked_named origin build zone (Err number) named is)
+
+pub asked_unnamed : (origin : List ℕ) (build : NameValue → Asked MessageValue) (number : ℕ) → (number ≡ 3) ⊎ (zone_name_of origin ≡ Err number)
+    → (number ≡ 3) ⊎ (asked_of origin build ≡ Err number)
+asked_unnamed origin build number (inl memory) = inl memory
+asked_unnamed origin build number (inr is) = inr (ap (λ z. ◌>>=◌ {A = NameValue} {B = MessageValue} z build) is)
+
+-- a text that is no SOA asks for no transfer
+pub soa_unread : (id : ℕ) (last : List ℕ) (zone : NameValue) (number : ℕ) → (number ≡ 3) ⊎ (soa_of_text zone last ≡ Err number)
+    → (number ≡ 3) ⊎ (transfer_of id last zone ≡ Err number)
+soa_unread id last zone number (inl memory) = inl memory
+soa_unread id last zone number (inr is) =
+    inr (ap (λ z. ◌>>=◌ {A = Option SOA} {B = MessageValue} z (λ soa. Ok (transfer_message id zone soa))) is)
+
+-- ---- types
+
+-- a type that may be changed is the one that was asked about
+pub of_type_is : (type found : RecordType) → of_type type ≡ Ok found → found ≡ type
+of_type_is type found is = go (is_supported_type type) is where
+  go : (b : Bool) → ◌≡◌ {A = Asked RecordType} (if b then Ok type else Err 29) (Ok found) → found ≡ type
+  go true same = cc
+  go false same = absurd cc
+
 -- ---- flags
 
 neither : (a b : Bool) → (a || b) ≡ false → (a ≡ false) × (b ≡ false)
@@ -61,9 +98,9 @@ one_header B h other stands again =
     let is : header_at B 0 ≡ Ok (h, 12) = (reads_word B 0 h 12).1 (stands, refl) in
     let same : header_at B 0 ≡ Ok (other, 12) = (reads_word B 0 other 12).1 (again, refl) in
     ap found (sym is ∙ same) where
-  found : Read Header → Header
-  found (Ok r) = r.0
-  found (Err e) = h
+      found : Read Header → Header
+      found (Ok r) = r.0
+      found (Err e) = h
 
 module _ (m : MessageValue) (B : List ℕ) (exact : message_answer 65535 m ≡ Ok B) (w : IsWritten m 65535 B) (h : Header) (stands : IsHeaderAt B 0 h) where
   flag : w.message.metadata.truncation ≡ h.metadata.truncation

@@ -1,6 +1,6 @@
 -- Texts of characters.
-use Rattle.std.proofs.Common.{◌≡◌, ◌⊎◌, ◌∷◌, [], Err, Ok, ℕ, List, inl, inr, length, refl, ap, sym, Bool, true, false}
-use Rattle.std.proofs.lemmas.Bool.{cond-false}
+use Rattle.std.proofs.Common.{◌≡◌, ◌⊎◌, ◌∙◌, Err, Ok, ℕ, List, inl, inr, length, refl, ap, sym, Bool, true, false}
+use Rattle.std.proofs.lemmas.Bool.{cond-false, cond-true}
 use Rattle.std.proofs.lemmas.Str.{IsUtf8-from_is_utf8, is_utf8-from_IsUtf8}
 use Rattle.std.specs.Prelude.{◌==◌}
 use Rattle.std.specs.Str.{IsUtf8, is_utf8}
@@ -21,17 +21,14 @@ are_characters text chars is same = rw (is_utf8-from_IsUtf8 text is) (ap Ok (sym
 
 -- no zone is named by no bytes, and by others the name that they are, as an absolute one
 pub no_zone_named : (text : List ℕ) → true ≡ (length text == 0) → zone_name_of text ≡ Err 26
-no_zone_named [] is = refl
-no_zone_named (c ∷ cs) is = cc
+no_zone_named text is = cond-true _ _ _ (sym is)
 
 -- a name that was asked for, as an absolute one
 abbrev pub as_zone : Asked NameValue → Asked NameValue
 as_zone asked = ◌>>=◌ {A = NameValue} {B = NameValue} asked (λ name. Ok (record name { absolute = true }))
 
-pub zone_named : (text : List ℕ) (made : Asked NameValue) → false ≡ (length text == 0) → name_of_text text ≡ made
-    → zone_name_of text ≡ as_zone made
-zone_named [] made some is = absurd cc
-zone_named (c ∷ cs) made some is = ap as_zone is
+pub zone_named : (text : List ℕ) (made : Asked NameValue) → false ≡ (length text == 0) → name_of_text text ≡ made → zone_name_of text ≡ as_zone made
+zone_named text made some is = cond-false _ _ _ (sym some) ∙ ap as_zone is
 
 pub zone_unnamed : (text : List ℕ) (number : ℕ) → false ≡ (length text == 0) → (number ≡ 3) ⊎ (name_of_text text ≡ Err number)
     → (number ≡ 3) ⊎ (zone_name_of text ≡ Err number)

@@ -120,10 +120,13 @@ change_asked id use_edns (changes.DeleteAll owner) zone =
 abbrev pub update_asked : ℕ → Bool → List ℕ → Change → Asked MessageValue
 update_asked id use_edns origin change = asked_of origin (change_asked id use_edns change)
 
--- the message that asks for a zone (RFC 5936, 2.1), or for what changed since an SOA (RFC 1995, 3)
+-- the message that asks for a zone of a name (RFC 5936, 2.1), or for what changed since an SOA (RFC 1995, 3)
+abbrev pub transfer_of : ℕ → List ℕ → NameValue → Asked MessageValue
+transfer_of id last zone = soa_of_text zone last >>= λ soa. Ok (transfer_message id zone soa)
+
+-- the same of the zone of an origin
 abbrev pub transfer_asked : ℕ → List ℕ → List ℕ → Asked MessageValue
-transfer_asked id origin last =
-    asked_of origin (λ zone. soa_of_text zone last >>= λ soa. Ok (transfer_message id zone soa))
+transfer_asked id origin last = asked_of origin (transfer_of id last)
 
 -- ---- what is sent
 

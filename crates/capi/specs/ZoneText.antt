@@ -1,5 +1,5 @@
 -- What calls on zone text are asked for.
-use Rattle.std.specs.Prelude.{ℕ, List, [], ◌∷◌, if◌then◌else◌, Option, Some, None, Ok, Err, true}
+use Rattle.std.specs.Prelude.{ℕ, List, [], ◌∷◌, ◌==◌, if◌then◌else◌, length, Option, Some, None, Ok, Err, true}
 use Rattle.std.specs.Str.{is_utf8}
 use Rattle.base.specs.Labels.{NameValue}
 use Rattle.base.specs.NameOf.{name_of}
@@ -20,8 +20,9 @@ name_of_text text = characters text >>= λ chars. numbered (name_of chars None)
 
 -- the name of a zone: the name of a text, as an absolute one
 abbrev pub zone_name_of : List ℕ → Asked NameValue
-zone_name_of [] = Err no_origin
-zone_name_of (c ∷ cs) = name_of_text (c ∷ cs) >>= λ name. Ok (record name { absolute = true })
+zone_name_of text = if length text == 0 then Err no_origin else (
+    name_of_text text >>= λ name. Ok (record name { absolute = true })
+    )
 
 -- the origin that a text names; none of an empty text
 abbrev pub origin_of_text : List ℕ → Asked (Option NameValue)

@@ -11,6 +11,6 @@ pub reads_type : (t made own : RecordType) (number : ℕ) (other : Bool) → oth
 reads_type t made own number other asked unlike reads writes is =
     sym (reads ∙ ap type_of (writes ∙ ap type_number is)) ∙ (types_Decide made own).0 (same (same_type made own) (sym asked ∙ unlike)) ∙ is
   where
-  same : (b : Bool) → not b ≡ false → b ≡ true
-  same true h = refl
-  same false h = cc
+    same : (b : Bool) → not b ≡ false → b ≡ true
+    same true h = refl
+    same false h = cc

@@ -67,7 +67,24 @@ impl RData {
                 true
             }
             RData::AAAA(rdata) => {
-                let [_a, _b, _c, _d, _e, _f, _g, _h, _i, _j, _k, _l, _m, _n, _o, _p] = rdata.octets;
+                let [
+                    _a,
+                    _b,
+                    _c,
+                    _d,
+                    _e,
+                    _f,
+                    _g,
+                    _h,
+                    _i,
+                    _j,
+                    _k,
+                    _l,
+                    _m,
+                    _n,
+                    _o,
+                    _p,
+                ] = rdata.octets;
                 true
             }
             RData::TXT(rdata) => {

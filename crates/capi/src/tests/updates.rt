@@ -9,6 +9,7 @@ use crate::zone::fuzsbanel_zone;
 use std::alloc::{AllocError, Global};
 
 const ORIGIN: &[u8] = b"example.";
+
 const WWW: &[u8] = b"www 300 A 192.0.2.2\n";
 
 /// A call that builds a message about the set of a text.
@@ -104,7 +105,11 @@ const REFUSED: &[(Call, &'static [u8], i64)] = &[
     (Call::Create, b"www 5 A 192.0.2.300", -23),
     (Call::Create, b"www 5 TXT \xff", -24),
     (Call::Append, b"www 5 CH A 192.0.2.1", -25),
-    (Call::Append, b"www 5 A 192.0.2.1\nwww 5 CH A 192.0.2.2", -25),
+    (
+        Call::Append,
+        b"www 5 A 192.0.2.1\nwww 5 CH A 192.0.2.2",
+        -25,
+    ),
     (Call::Swap, b"", -27),
     (Call::Create, b"www 5 A 192.0.2.1\nftp 5 A 192.0.2.1", -27),
     (Call::DeleteData, b"www.other. 5 A 192.0.2.1", -28),
@@ -168,7 +173,14 @@ www.lab.example. 60 IN A 192.0.2.3\nns.example. 60 IN A 192.0.2.1\n\
 www.example. 300 IN A 192.0.2.2\n";
     let are_lines = out.starts_with(lines);
     assert!(rt; applied == lines.len() as i64 && are_lines);
-    let other = fuzsbanel_apply(rt.alloc(), update, b"lab.example.", ZONE, &mut out, &mut needed);
+    let other = fuzsbanel_apply(
+        rt.alloc(),
+        update,
+        b"lab.example.",
+        ZONE,
+        &mut out,
+        &mut needed,
+    );
     assert!(rt; 0 < other && out.starts_with(b"NotAuth\n"));
     let zone = fuzsbanel_zone(rt.alloc(), ORIGIN, WWW, &mut out, &mut needed);
     let is_zone = out.starts_with(b"$ORIGIN example.\nwww.example. 300 IN A 192.0.2.2\n");

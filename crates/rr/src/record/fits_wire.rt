@@ -47,7 +47,6 @@ impl Record<RData> {
         ensures { IsTrue result ↔ ((opt_class (class_number self.now.dns_class)
             ≡ self.now.dns_class) × (self.now.mdns_cache_flush ≡ false)) }
     {
-        !self.mdns_cache_flush
-            && DNSClass::for_opt(u16::from(self.dns_class)) == self.dns_class
+        !self.mdns_cache_flush && DNSClass::for_opt(u16::from(self.dns_class)) == self.dns_class
     }
 }

@@ -25,7 +25,7 @@ has_owner c =
     let read = c.in_ok-read.ensures in
     subst (λ (name : NameValue). HasOwner c.args.decoder.now c.read.new.decoder name)
     (sym (ap (λ (r : Record RData). r.name) c.update0-record.ensures))
-    (record { read = read.read.0; bytes = read.read.1; adds = read.adds })
+    (record { read = read.read.0; bytes = read.read.1; tracks = read.tracks })
 
 pub returns-in_err-read_after_owner : goal.returns-in_err-read_after_owner
 returns-in_err-read_after_owner c =

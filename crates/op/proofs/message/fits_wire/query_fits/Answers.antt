@@ -5,11 +5,11 @@ use Rattle.op.proofs.message.fits_wire.query_fits.Goals as goal
 pub returns : goal.returns
 returns c = (
   λ yes. let class = c.class_fits.ensures.0 yes in
-  record {
-    absolute = search rules;
-    type_reads = reads_type _ _ _ _ _ c.ne.ensures c.if-ne.false c.from-2.ensures c.from.ensures (λ _. c.args.query.now.query_type);
-    class_reads = class.0;
-    narrow = class.1;
-  },
+      record {
+        absolute = search rules;
+        type_reads = reads_type _ _ _ _ _ c.ne.ensures c.if-ne.false c.from-2.ensures c.from.ensures (λ _. c.args.query.now.query_type);
+        class_reads = class.0;
+        narrow = class.1;
+      },
   λ fits. c.class_fits.ensures.1 (fits.class_reads, fits.narrow),
 )
