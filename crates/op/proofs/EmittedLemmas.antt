@@ -1,6 +1,6 @@
 -- A message that is composed of slices is written, or refused, as its definition says.
 use Rattle.std.proofs.Common.{◌≡◌, ◌⊎◌, inl, inr, ℕ, ◌+◌, ◌<◌, ◌≤◌, ◌^◌, Bool, true, false, List, length, refl, ap, sym, ◌∙◌, subst, arith, length-append, Result, Ok, Err, Bor, Iter}
-use Rattle.std.specs.Prelude.{◌||◌, ⊤, IsSomeAnd, MatchOption, Option, Some, None, replicate}
+use Rattle.std.specs.Prelude.{◌||◌, IsSomeAnd, MatchOption, Option, Some, None, replicate}
 use Rattle.std.specs.Option.{option_copied, option_map}
 use Rattle.std.proofs.Math.Bool.{or_assoc}
 use Rattle.std.proofs.iter.Yields.{fronts}
@@ -15,7 +15,7 @@ use Rattle.base.proofs.WrittenLemmas.{after-both}
 use Rattle.base_data.specs.declared.rdata.RData.{RData}
 use Rattle.rr.specs.Record.{record_written}
 use Rattle.rr.specs.declared.record.Record.{Record}
-use Rattle.op.specs.Composition.{AddsCounts, AndThen, Composition, CountsItems, EmitsPart, FillsIn, HasHeader, KeepsRoom, Narrows, Tests, WritesFront}
+use Rattle.op.specs.Composition.{AddsCounts, Composition, CountsItems, EmitsPart, KeepsRoom, Narrows, WritesFront}
 use Rattle.op.specs.Cut.{raised}
 use Rattle.op.specs.EdnsRecord.{edns_record}
 use Rattle.op.specs.Fits.{as_list, opt_records, signature_record, with_high_bits}
@@ -27,7 +27,6 @@ use Rattle.op.specs.Query.{query_written}
 use Rattle.op.specs.QuerySays.{QueryKept}
 use Rattle.op.specs.declared.edns.Edns.{Edns}
 use Rattle.op.specs.declared.header.Header.{Header}
-use Rattle.op.specs.declared.header.metadata.Metadata.{Metadata}
 use Rattle.op.specs.declared.message.writing.Written.{Written}
 use Rattle.op.specs.declared.query.Query.{Query}
 use Rattle.op.proofs.AnswerLaws.{answer_by}

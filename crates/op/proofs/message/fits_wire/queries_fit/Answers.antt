@@ -1,4 +1,4 @@
-use Rattle.std.proofs.Common.{rules, subst, take}
+use Rattle.std.proofs.Common.{rules, subst}
 use Rattle.std.proofs.lemmas.List.{take_all}
 use Rattle.std.proofs.lemmas.List.Elements.{All-more}
 use Rattle.std.specs.Prelude.{All}
