@@ -2,9 +2,8 @@
 use Rattle.std.proofs.Common.{Err, List, None, Ok, Option, Result, Some, [], ap, lit<, lit≤, false, refl, subst, sym, true, ℕ, ◌∙◌, ◌∷◌, ◌≡◌, ◌⊎◌, inl, inr}
 use Rattle.std.proofs.lemmas.Bool.{or_parts}
 use Rattle.std.proofs.lemmas.List.Elements.{All-cons, All-nil}
-use Rattle.std.proofs.lemmas.Result.{IfErr-weaker}
 use Rattle.std.specs.BTreeMap.{BTreeMap}
-use Rattle.std.specs.Prelude.{All, IfErr, IfOk, String, Vec, map}
+use Rattle.std.specs.Prelude.{All, String, map}
 use Rattle.std.specs.String.{string_bytes}
 use Rattle.std.specs.declared.alloc.Global.{Global}
 use Rattle.base.specs.Labels.{NameValue}
@@ -18,7 +17,7 @@ use Rattle.base_data.specs.declared.rdata.RData.{RData}
 use Rattle.op.proofs.AnswerLaws.{too_small}
 use Rattle.op.proofs.MessageStands.{one_message}
 use Rattle.op.specs.Edns.{new_edns}
-use Rattle.op.specs.Cut.{IsCut, IsTooSmall, IsUncut, IsWritten, any_lost}
+use Rattle.op.specs.Cut.{IsCut, IsUncut, IsWritten, any_lost}
 use Rattle.op.specs.Fits.{Fits, FitsEdns, FitsPlain, as_list}
 use Rattle.op.specs.Message.{IsMessageAt, MessageValue}
 use Rattle.op.specs.MessageWritten.{message_answer, message_bytes}
@@ -33,15 +32,9 @@ use Rattle.rr.specs.RecordSet.{SetValue}
 use Rattle.rr.specs.declared.record.Record.{Record}
 use Rattle.txt.specs.Parser.{ParserValue, named_texts, text_among}
 use Rattle.txt.specs.Zone.{Texts, no_texts, zone_of}
-use Rattle.examples.specs.Callers.{QuestionsHaveNoRoom, IsQueryAnswered, IsCreated, IsNotReceived, IsReceived, IsUnanswered, IsUnsent, IsZoneOfText, creating, response_edns, response_to}
+use Rattle.examples.specs.Callers.{IsQueryAnswered, IsCreated, IsNotReceived, IsReceived, IsUnanswered, IsUnsent, IsUnwritten, IsZoneOfText, creating, is_query, response_edns, response_to}
 use Rattle.examples.specs.declared.refusal.Refusal.{Refusal}
 use Rattle.examples.specs.declared.refusal.Refusal.TheVariants as refused
-
--- a refusal but for memory says that there is too little room
-pub small_of : (m : MessageValue) (limit : ℕ) (e : ProtoError) → (e ≡ refusals.Memory)
-    ⊎ (message_answer limit m ≡ Err e) → (e ≡ refusals.Memory) ⊎ IsTooSmall m limit e
-small_of m limit e (inl memory) = inl memory
-small_of m limit e (inr is) = inr (too_small m limit [] e is)
 
 -- ---- an answer
 
@@ -64,42 +57,35 @@ response_fits q answers fits all = record {
 
 module _ (received : List ℕ) (answers : List (Record RData)) (q : MessageValue) (e : ℕ) (stands : IsMessageAt received 0 q e) (m : MessageValue) (limit : ℕ)
     (is : m ≡ response_to q answers) (taken : limit ≡ payload_taken q.edns) where
+  -- writing the message under the limit is writing the response under what the client takes
+  as_taken : message_answer (payload_taken q.edns) (response_to q answers) ≡ message_answer limit m
+  as_taken = ap (message_answer (payload_taken q.edns)) (sym is) ∙ ap (λ n. message_answer n m) (sym taken)
+
   -- what is sent answers the query
-  pub answered : (result : Result (Vec ℕ Global) ProtoError) → Fits q → (Fits m → IfOk result (λ bytes. IsWritten m limit bytes.items))
-      → IfOk result (λ bytes. message_answer limit m ≡ Ok bytes.items) → IfOk result (λ sent. IsQueryAnswered received answers sent.items)
-  answered (Ok sent) fits written exact = record {
+  pub answered : (sent : List ℕ) → is_query q ≡ true → Fits q → (Fits m → IsWritten m limit sent) → message_answer limit m ≡ Ok sent
+      → IsQueryAnswered received answers sent
+  answered sent asks fits written exact = record {
     query = q;
     end = e;
     stands = stands;
-    exact = ap (message_answer (payload_taken q.edns)) (sym is) ∙ ap (λ n. message_answer n m) (sym taken) ∙ exact;
-    cut = λ all. subst (λ x. IsWritten x (payload_taken q.edns) sent.items) is (subst (λ n. IsWritten m n sent.items) taken (written (subst Fits (sym is) (response_fits q answers fits all))));
-  }
-  answered (Err refusal) fits written exact = tt
-
-  no_room : (refusal : ProtoError) → IsTooSmall m limit refusal → QuestionsHaveNoRoom received answers refusal
-  no_room refusal small = record {
-    query = q;
-    end = e;
-    stands = stands;
-    small = subst (λ x. IsTooSmall x (payload_taken q.edns) refusal) is (subst (λ n. IsTooSmall m n refusal) taken small);
+    asks = asks;
+    exact = as_taken ∙ exact;
+    cut = λ all. subst (λ x. IsWritten x (payload_taken q.edns) sent) is (subst (λ n. IsWritten m n sent) taken (written (subst Fits (sym is) (response_fits q answers fits all))));
   }
 
-  unanswered : (refusal : ProtoError) → (refusal ≡ refusals.Memory) ⊎ IsTooSmall m limit refusal → IsUnanswered received answers refusal
-  unanswered refusal (inl memory) = subst (λ r. IsUnanswered received answers r) (sym memory) tt
-  unanswered refusals.MaxBufferSizeExceeded (inr small) = no_room refusals.MaxBufferSizeExceeded small
-  unanswered (refusals.NotAllRecordsWritten count) (inr small) = no_room (refusals.NotAllRecordsWritten count) small
-  unanswered refusals.Memory (inr small) = tt
-  unanswered (refusals.Decode fault) (inr small) = absurd small
-  unanswered refusals.NotOpt (inr small) = absurd small
-  unanswered (refusals.Message text) (inr small) = absurd small
-  unanswered refusals.NotAResponse (inr small) = absurd small
+  unwritten : (refusal : ProtoError) → message_answer limit m ≡ Err refusal → IsUnwritten received answers refusal
+  unwritten refusal exact = record { query = q; end = e; stands = stands; exact = as_taken ∙ exact }
 
   -- and a refusal says why nothing was
-  pub none_answered : (result : Result (Vec ℕ Global) ProtoError)
-      → IfErr result (λ r. (r ≡ refusals.Memory) ⊎ (message_answer limit m ≡ Err r))
-      → IfErr result (λ r. IsUnanswered received answers r)
-  none_answered result says = IfErr-weaker result (λ r. (r ≡ refusals.Memory) ⊎ (message_answer limit m ≡ Err r))
-      (λ r. IsUnanswered received answers r) (λ r is. unanswered r (small_of m limit r is)) says
+  pub unanswered : (refusal : ProtoError) → (refusal ≡ refusals.Memory) ⊎ (message_answer limit m ≡ Err refusal) → IsUnanswered received answers refusal
+  unanswered refusal (inl memory) = subst (λ r. IsUnanswered received answers r) (sym memory) tt
+  unanswered refusals.MaxBufferSizeExceeded (inr exact) = unwritten refusals.MaxBufferSizeExceeded exact
+  unanswered (refusals.NotAllRecordsWritten count) (inr exact) = unwritten (refusals.NotAllRecordsWritten count) exact
+  unanswered refusals.Memory (inr exact) = tt
+  unanswered (refusals.Decode fault) (inr exact) = absurd (too_small m limit [] (refusals.Decode fault) exact)
+  unanswered refusals.NotOpt (inr exact) = unwritten refusals.NotOpt exact
+  unanswered (refusals.Message text) (inr exact) = unwritten (refusals.Message text) exact
+  unanswered refusals.NotAResponse (inr exact) = unwritten refusals.NotAResponse exact
 
 -- ---- an update
 
@@ -149,7 +135,9 @@ module _ (maps : MapsAreZones) (creates : CreateApplies) (origin : NameValue) (t
   created within written received before applied = record {
     old = old;
     before = before;
-    change = λ sendable in_class alone.
+    update = update;
+    applied = applied;
+    change = λ sendable ordinary in_class alone.
         let w = written sendable in
         let same = one_message bytes 0 update w.message _ _ received.stands w.is_cut.word in
         let whole = uncut w.is_cut (sym (ap (λ m. m.metadata.truncation) same.0) ∙ received.whole) in
@@ -157,7 +145,7 @@ module _ (maps : MapsAreZones) (creates : CreateApplies) (origin : NameValue) (t
           record {
             zone = maps origin classes.IN old before.is_map;
             sound = sendable.sound;
-            ordinary = sendable.ordinary;
+            ordinary = ordinary;
             place = record { same_origin = (same_by-equiv folded).refl origin; same_class = sym in_class; within = within };
           },
           alone,

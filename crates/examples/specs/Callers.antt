@@ -2,7 +2,8 @@
 use Rattle.base.specs.declared.limits.TheConstants.{MAX_MESSAGE}
 use Rattle.std.specs.BTreeMap.{BTreeMap}
 use Rattle.std.specs.Option.{option_map}
-use Rattle.std.specs.Prelude.{All, Err, List, None, Ok, Option, Result, Some, false, if◌then◌else◌, length, map, true, ℕ, ◌-◌, ◌≡◌, ◌⊎◌}
+use Rattle.std.specs.Prelude.{All, Bool, Err, List, None, Ok, Option, Result, Some, Vec, false, if◌then◌else◌, length, map, not, true, ℕ, ◌&&◌, ◌-◌, ◌==◌, ◌≡◌, ◌⊎◌}
+use Rattle.std.specs.declared.alloc.Global.{Global}
 use Rattle.base.specs.Labels.{NameValue}
 use Rattle.base.specs.Reading.{Fails as FailsToRead}
 use Rattle.base.specs.TextFaults.{FailsWith, Fault}
@@ -11,21 +12,25 @@ use Rattle.base.specs.declared.error.proto_error.ProtoError.{ProtoError}
 use Rattle.base.specs.declared.error.proto_error.ProtoError.TheVariants as refusals
 use Rattle.base.specs.declared.rr_key.RrKey.{RrKey}
 use Rattle.base_data.specs.declared.rdata.RData.{RData}
-use Rattle.op.specs.Cut.{IsTooSmall, IsWritten}
+use Rattle.op.specs.Cut.{IsWritten}
 use Rattle.op.specs.Edns.{new_edns}
 use Rattle.op.specs.Fits.{FitsPlain}
 use Rattle.op.specs.Message.{IsMessageAt, MessageValue, empty_message, message_at}
 use Rattle.op.specs.MessageWritten.{message_answer, message_bytes}
+use Rattle.op.specs.MessageType.{is_response}
 use Rattle.op.specs.Metadata.{response_metadata}
-use Rattle.op.specs.Parts.{payload_taken}
+use Rattle.op.specs.Parts.{edns_version, payload_taken}
 use Rattle.op.specs.declared.edns.Edns.{Edns}
+use Rattle.op.specs.declared.op_code.OpCode.TheVariants as op_codes
+use Rattle.op.specs.declared.op_code.OpCode.{OpCode}
 use Rattle.op.specs.declared.response_code.ResponseCode.TheVariants.{NoError, YXRRSet}
 use Rattle.op.specs.declared.response_code.ResponseCode.{ResponseCode}
-use Rattle.op_use.specs.Applying.{IsZoneMap, zone_of_map}
+use Rattle.op_use.specs.Applying.{IsApplied, IsZoneMap, zone_of_map}
 use Rattle.op_use.specs.DnsResponse.{IsResponse}
 use Rattle.op_use.specs.NamedChanges.{merged, set_key}
 use Rattle.op_use.specs.Responses.{negative_ttl}
-use Rattle.op_use.specs.SoundSet.{IsSendable, NoCname}
+use Rattle.op_use.specs.Server.{sections_of}
+use Rattle.op_use.specs.SoundSet.{IsSendable, NoCname, is_ordinary}
 use Rattle.op_use.specs.UpdateMessage.{create, update_message}
 use Rattle.op_use.specs.Zone.{Zone, has_set}
 use Rattle.rr.specs.Record.{decremented}
@@ -40,6 +45,16 @@ use Rattle.examples.specs.declared.refusal.Refusal.{Refusal}
 use Rattle.examples.specs.declared.refusal.Refusal.TheVariants as refused
 
 -- ---- an answer to a query
+
+-- whether this asks for records (RFC 1035, 4.1.1)
+abbrev pub is_standard : OpCode → Bool
+is_standard op_codes.Query = true
+is_standard _ = false
+
+-- whether a message is a query, of EDNS version 0 or without EDNS (RFC 1035, 4.1.1; RFC 6891, 6.1.3)
+abbrev pub is_query : MessageValue → Bool
+is_query m = not (is_response m.metadata.message_type)
+    && (is_standard m.metadata.op_code && edns_version m.edns == 0)
 
 -- EDNS of a response: a query with EDNS is answered with EDNS (RFC 6891, 6.1.1)
 abbrev pub response_edns : Option Edns → Option Edns
@@ -62,23 +77,36 @@ pub record IsQueryAnswered (received : List ℕ) (answers : List (Record RData))
   pub query : MessageValue
   pub end : ℕ
   pub stands : IsMessageAt received 0 query end
+  pub asks : is_query query ≡ true
   pub exact : message_answer (payload_taken query.edns) (response_to query answers) ≡ Ok sent
   pub cut : All (FitsPlain query.metadata.op_code) answers
       → IsWritten (response_to query answers) (payload_taken query.edns) sent
 
--- The questions have no room under what the client takes.
-pub record QuestionsHaveNoRoom (received : List ℕ) (answers : List (Record RData))
+-- A message that is no such query begins the bytes that were received.
+pub record IsNoQuery (received : List ℕ) : Type 0 where
+  pub message : MessageValue
+  pub end : ℕ
+  pub stands : IsMessageAt received 0 message end
+  pub other : is_query message ≡ false
+
+-- what is sent, if anything is, for what was received
+abbrev pub AnswersReceived : List ℕ → List (Record RData) → Option (Vec ℕ Global) → Type 0
+AnswersReceived received answers (Some sent) = IsQueryAnswered received answers sent.items
+AnswersReceived received answers None = IsNoQuery received
+
+-- Writing the response to a query is refused so, since what the client takes has no room for the questions.
+pub record IsUnwritten (received : List ℕ) (answers : List (Record RData))
     (e : ProtoError) : Type 0 where
   pub query : MessageValue
   pub end : ℕ
   pub stands : IsMessageAt received 0 query end
-  pub small : IsTooSmall (response_to query answers) (payload_taken query.edns) e
+  pub exact : message_answer (payload_taken query.edns) (response_to query answers) ≡ Err e
 
 -- why there was no answer: what reading met, questions without room, or memory ran out
 abbrev pub IsUnanswered : List ℕ → List (Record RData) → ProtoError → Type 0
 IsUnanswered received answers (refusals.Decode fault) = FailsToRead fault (message_at received 0)
 IsUnanswered received answers refusals.Memory = Unit {0}
-IsUnanswered received answers e = QuestionsHaveNoRoom received answers e
+IsUnanswered received answers e = IsUnwritten received answers e
 
 -- ---- a cache entry
 
@@ -115,12 +143,15 @@ creation z s = if has_set z (set_key s) then (YXRRSet, z) else (NoError, merged 
 abbrev pub creating : NameValue → SetValue → MessageValue
 creating origin s = update_message 1 false (create s origin)
 
--- The zone of the text, before the update that creates a set and after it.
+-- The zone of the text, before the update that creates a set and after it: what a server makes of it by what was
+-- received, and what that is for a set of an ordinary type.
 pub record IsCreated (origin : NameValue) (text : List ℕ) (s : SetValue) (code : ResponseCode)
     (new : BTreeMap RrKey SetValue) : Type 0 where
   pub old : BTreeMap RrKey SetValue
   pub before : IsZoneOfText origin text old
-  pub change : IsSendable origin s → s.dns_class ≡ classes.IN
+  pub update : MessageValue
+  pub applied : IsApplied origin classes.IN (sections_of update) old code new
+  pub change : IsSendable origin s → is_ordinary s.record_type ≡ true → s.dns_class ≡ classes.IN
       → NoCname (zone_of_map origin classes.IN old) s.name
       → ◌≡◌ {A = ResponseCode × Zone} (code, zone_of_map origin classes.IN new)
       (creation (zone_of_map origin classes.IN old) s)
@@ -152,10 +183,10 @@ IsNotReceived bytes (refused.Decode fault) = FailsToRead fault (message_at bytes
 IsNotReceived bytes refused.Input = IsCutShort bytes
 IsNotReceived bytes e = ⊥
 
--- uncompressed questions without room; or the bytes of the message, where they are not received whole
+-- why the message isn't written; or the bytes of the message, where they are not received whole
 abbrev pub IsUnsent : NameValue → SetValue → Refusal → Type 0
 IsUnsent origin s (refused.Proto e) =
-    (e ≡ refusals.Memory) ⊎ IsTooSmall (creating origin s) MAX_MESSAGE e
+    (e ≡ refusals.Memory) ⊎ (message_answer MAX_MESSAGE (creating origin s) ≡ Err e)
 IsUnsent origin s e =
     let bytes = message_bytes MAX_MESSAGE (creating origin s) in
     (IsSendable origin s → IsWritten (creating origin s) MAX_MESSAGE bytes) × IsNotReceived bytes e

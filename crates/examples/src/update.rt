@@ -1,12 +1,12 @@
 //! Creates a record set in the zone of a text, by an update that is sent and received.
 
 ghost use Rattle.base.specs.declared.limits.TheConstants.{MAX_MESSAGE};
-ghost use Rattle.std.specs.Prelude.{◌≡◌, ◌⊎◌, IfErr, IfOk, true};
+ghost use Rattle.std.specs.Prelude.{◌≡◌, ◌⊎◌, Err, IfErr, IfOk, true};
 ghost use Rattle.base.specs.NameOrder.{is_zone_of};
 ghost use Rattle.base.specs.declared.error.proto_error.ProtoError.TheVariants as refusals;
-ghost use Rattle.op.specs.Cut.{IsTooSmall, IsWritten};
+ghost use Rattle.op.specs.Cut.{IsWritten};
 ghost use Rattle.op.specs.Message.{message_value};
-ghost use Rattle.op.specs.MessageWritten.{message_bytes};
+ghost use Rattle.op.specs.MessageWritten.{message_answer, message_bytes};
 ghost use Rattle.op_use.specs.SoundSet.{IsSendable};
 ghost use Rattle.examples.specs.Callers.{IsCreated, IsNoZone, IsNotReceived, IsReceived, IsUnsent, IsZoneOfText, creating};
 
@@ -39,7 +39,8 @@ pub fn create_in(
     set: RecordSet,
 ) -> Result<(ResponseCode, BTreeMap<RrKey, RecordSet>), Refusal>
     requires { is_zone_of origin.now set.name ≡ true }
-    // The change is told for a set that can be sent, of class IN, whose owner has no CNAME there.
+    // What a server makes of the update; and what that is for a set that can be sent, of an
+    // ordinary type and of class IN, whose owner has no CNAME there.
     ensures created { IfOk result (λ r. IsCreated origin.now text.now set r.0 r.1) }
     ensures refused { IfErr result
         (λ e. IsUnsent origin.now set e ⊎ IsNoZone origin.now text.now e) }
@@ -61,8 +62,8 @@ fn update_bytes(alloc: Global, origin: &Name, set: RecordSet) -> Result<Vec<u8>,
     // The bytes are exactly those of the definition `message_bytes`.
     ensures exact { IfOk result
         (λ bytes. bytes.items ≡ message_bytes MAX_MESSAGE (creating origin.now set)) }
-    ensures refused { IfErr result
-        (λ e. (e ≡ refusals.Memory) ⊎ IsTooSmall (creating origin.now set) MAX_MESSAGE e) }
+    ensures refused { IfErr result (λ e. (e ≡ refusals.Memory)
+        ⊎ (message_answer MAX_MESSAGE (creating origin.now set) ≡ Err e)) }
 {
     let update = create(alloc, 1, set, origin.clone()?, false)?;
     update.to_vec()

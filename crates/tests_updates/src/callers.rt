@@ -13,7 +13,6 @@ use std::alloc::Global;
 use std::net::Ipv4Addr;
 use std::test::Fail;
 use test_tools::bytes::decode;
-use test_tools::forms::are_bytes;
 
 /// The answer to `www.example.com A`.
 fn answers(alloc: Global) -> Result<Vec<Record>, Fail> {
@@ -27,7 +26,14 @@ fn responds(alloc: Global, query: &str, response: &str) -> Result<bool, Fail> {
     let received = decode(alloc, query)?;
     let wanted = decode(alloc, response)?;
     let answers = answers(alloc)?;
-    Ok(are_bytes(respond(alloc, &received, answers), &wanted))
+    let sent = respond(alloc, &received, answers)?;
+    Ok(sent.is_some_and(|sent| *sent == *wanted))
+}
+
+/// Whether nothing is sent for a message in hexadecimal.
+fn is_silent(alloc: Global, message: &str) -> Result<bool, Fail> {
+    let received = decode(alloc, message)?;
+    Ok(respond(alloc, &received, answers(alloc)?)?.is_none())
 }
 
 /// The query `www.example.com A` and the response, whose answer's owner is a pointer to the
@@ -50,6 +56,25 @@ const ANSWERED: &[(&'static str, &'static str)] = &[
 fn a_query_is_answered(rt: HostRuntime) -> Result<(), Fail> {
     for &(query, response) in ANSWERED {
         assert!(rt; responds(rt.alloc(), query, response)?, "{query}");
+    }
+    Ok(())
+}
+
+/// A response, a status query (RFC 1035, 4.1.1), a notice (RFC 1996, 3), an update (RFC 2136, 2.2), and a query of EDNS
+/// version 1 (RFC 6891, 6.1.3).
+const NOT_ANSWERED: &[&'static str] = &[
+    "1000 8100 0001 0000 0000 0000 03777777 076578616D706C65 03636F6D 00 0001 0001",
+    "1000 1000 0001 0000 0000 0000 03777777 076578616D706C65 03636F6D 00 0001 0001",
+    "1000 2000 0001 0000 0000 0000 076578616D706C65 00 0006 0001",
+    "1000 2800 0001 0000 0000 0000 076578616D706C65 00 0006 0001",
+    "1000 0110 0001 0000 0000 0001 03777777 076578616D706C65 03636F6D 00 0001 0001 \
+     00 0029 04D0 00010000 0000",
+];
+
+#[test]
+fn queries_alone_are_answered(rt: HostRuntime) -> Result<(), Fail> {
+    for &message in NOT_ANSWERED {
+        assert!(rt; is_silent(rt.alloc(), message)?, "{message}");
     }
     Ok(())
 }

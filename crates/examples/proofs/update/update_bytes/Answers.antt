@@ -1,15 +1,14 @@
 use Rattle.std.proofs.Common.{◌≡◌, ◌∙◌, ◌⊎◌, Result, Ok, Err, [], ap, subst, sym}
-use Rattle.std.proofs.lemmas.Result.{IfErr-weaker, IfOk-weaker}
+use Rattle.std.proofs.lemmas.Result.{IfOk-weaker}
 use Rattle.std.specs.Prelude.{IfErr, IfOk}
 use Rattle.base.specs.Labels.{NameValue}
 use Rattle.base.specs.declared.error.proto_error.ProtoError.TheVariants as refusals
 use Rattle.op.proofs.AnswerLaws.{answer_bytes}
-use Rattle.op.specs.Cut.{IsTooSmall, IsWritten}
+use Rattle.op.specs.Cut.{IsWritten}
 use Rattle.op.specs.Message.{MessageValue, message_value}
-use Rattle.op.specs.MessageWritten.{message_bytes}
+use Rattle.op.specs.MessageWritten.{message_answer, message_bytes}
 use Rattle.op_use.specs.SoundSet.{IsSendable}
 use Rattle.examples.specs.Callers.{creating}
-use Rattle.examples.proofs.CallerLemmas.{small_of}
 use Rattle.examples.proofs.update.update_bytes.Goals as goal
 
 -- a fact of a result under a premise is one of its value
@@ -38,5 +37,5 @@ pub returns-clause-refused : goal.returns-clause-refused
 returns-clause-refused c =
     let same : c.in_ok-clone.field-0 ≡ c.args.origin.now = c.in_ok-clone.ensures.cases in
     let built = c.in_ok-update.ensures.built ∙ ap (λ (origin : NameValue). creating origin c.args.set) same in
-    subst (λ (m : MessageValue). IfErr c.to_vec.result (λ e. (e ≡ refusals.Memory) ⊎ IsTooSmall m 65535 e)) built
-    (IfErr-weaker c.to_vec.result _ _ (small_of (message_value c.in_ok-update.update) 65535) c.to_vec.ensures.refusal)
+    subst (λ (m : MessageValue). IfErr c.to_vec.result (λ e. (e ≡ refusals.Memory) ⊎ (message_answer 65535 m ≡ Err e))) built
+    c.to_vec.ensures.refusal
