@@ -258,7 +258,7 @@ fn what_is_not_one_set_in_the_zone_is_refused() {
         ("www.example.org. 300 A 192.0.2.2\n", Error::Outside),
         ("www 300 CH A 192.0.2.2\n", Error::Class),
         ("@ 300 SOA ns hostmaster 1 2 3 4 5\n", Error::Type),
-        ("$ORIGIN a\nwww.example. 300 MX 10 @\n", Error::NotOnWire),
+        ("$ORIGIN a\nwww.example. 300 MX 10 \"@\"\n", Error::NotOnWire),
     ] {
         assert_eq!(
             fuzsbanel::create(1, "example.", set, false),

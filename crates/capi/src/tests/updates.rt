@@ -122,7 +122,7 @@ const REFUSED: &[(Call, &'static [u8], i64)] = &[
     (Call::DeleteSet(0), b"www", -29),
     (Call::Transfer, WWW, -30),
     (Call::Transfer, b"www 5 SOA ns hostmaster 1 2 3 4 5", -30),
-    (Call::Create, b"$ORIGIN a\nwww.example. 5 MX 10 @", -31),
+    (Call::Create, b"$ORIGIN a\nwww.example. 5 MX 10 \"@\"", -31),
 ];
 
 #[test]
