@@ -8,15 +8,13 @@ use Rattle.std.proofs.NetLemmas.Ipv4.{read_ipv4_complete, read_ipv4_sound}
 use Rattle.std.proofs.NetLemmas.Ipv6.{EndsGroups-nil, read_ipv6_complete, read_ipv6_sound}
 use Rattle.std.proofs.lemmas.Bool.Decides.{nat_tests}
 use Rattle.std.proofs.lemmas.List.{append-nil}
+use Rattle.std.proofs.lemmas.Option.{same_Some}
 use Rattle.base_data.specs.Fields.{ipv4_item, ipv6_item}
-
-same_of : {X : Type 0} {x y : X} → ◌≡◌ {A = Option X} (Some x) (Some y) → x ≡ y
-same_of is = cc
 
 -- a value that was read whole, with nothing after it
 whole_is : {A : Type 0} (read : Read A) (value : A) → whole_value read ≡ Some value → read ≡ Some (value, [])
 whole_is None value is = absurd (cc is)
-whole_is {A} (Some (value, [])) found is = ap (λ (v : A). Some (v, [])) (same_of is)
+whole_is {A} (Some (value, [])) found is = ap (λ (v : A). Some (v, [])) (same_Some _ _ is)
 whole_is (Some (value, c ∷ rest)) found is =
     let some : (length (c ∷ rest) == 0) ≡ false = grind (arith, nat_tests) in
     absurd (cc (rw some at is))

@@ -19,11 +19,6 @@ abbrev pub data_fault : RecordType → DataError → DecodeError
 data_fault type reasons.Memory = faults.Memory
 data_fault type reasons.BadData = faults.BadData type
 
--- an answer as a caller is told it who knows the type
-abbrev pub told : {X : Type 0} → RecordType → Result X DataError → Result X DecodeError
-told type (Ok x) = Ok x
-told type (Err reason) = Err (data_fault type reason)
-
 -- reading meets a fault of the data
 abbrev pub IsBad : Read RData → Type 0
 IsBad (Err faults.Memory) = ⊥

@@ -5,7 +5,6 @@ pub mod rdata;
 pub mod record_data;
 
 pub use rdata::{
-    A, AAAA, ANAME, CNAME, DataError, EdnsOption, MX, NS, NULL, OPT, PTR, RData, SOA, SRV, TSIG,
-    TXT,
+    A, AAAA, ANAME, CNAME, EdnsOption, MX, NS, NULL, OPT, PTR, RData, SOA, SRV, TSIG, TXT,
 };
 pub use record_data::RecordData;

@@ -7,23 +7,17 @@ use Rattle.std.proofs.Math.Seq.{drop-cons, take-length, take-suc}
 use Rattle.std.proofs.lemmas.Bool.{le-ltb}
 use Rattle.std.proofs.lemmas.List.{append-nil, drop_at, drop-drop, drop_all, length-take-le, set_at, take_at}
 use Rattle.std.proofs.lemmas.List.{take-append-drop}
-use Rattle.std.specs.Int.{w16, w32}
-use Rattle.std.specs.Prelude.{nat_lt, not, ◌&&◌, ◌==◌}
-use Rattle.base.specs.Labels.{NameValue}
+use Rattle.std.specs.Prelude.{nat_lt}
 use Rattle.base.specs.Many.{many_at}
 use Rattle.base.specs.Names.{name_at}
-use Rattle.base.specs.Reading.{Fails, bytes_at, number_at}
+use Rattle.base.specs.Reading.{Fails, bytes_at}
 use Rattle.base.specs.Reader.{Reader, begun}
-use Rattle.base.specs.RecordType.{type_of}
-use Rattle.base.specs.declared.record_type.RecordType.{RecordType}
 use Rattle.base.specs.declared.error.decode_error.DecodeError.{DecodeError}
 use Rattle.base.proofs.ManyLemmas.{many-end, many-fault, many-step, with_front}
-use Rattle.base.proofs.ReadLemmas.{Fails-through, bind_ok}
+use Rattle.base.proofs.ReadLemmas.{Fails-through}
 use Rattle.base_data.proofs.Tells.{same_ok}
-use Rattle.base_data.specs.RData.{rdata_at}
 use Rattle.base_data.specs.declared.rdata.RData.{RData}
-use Rattle.rr.proofs.ReadRecords.{turned}
-use Rattle.rr.specs.Record.{body_at, is_opt_type, record_at}
+use Rattle.rr.specs.Record.{record_at}
 use Rattle.rr.specs.declared.record.Record.{Record}
 use Rattle.capi.specs.Walk.{fields_found}
 use Rattle.capi.specs.WalkWhole.{go_on, item_at, items_of, names_of, octets_of, question_stop, record_stop, stop_at}
@@ -77,30 +71,6 @@ before_is bytes place inside =
     let there : nat_lt (length bytes) place ≡ false = le-ltb (length bytes) place inside in
     rw (zero-add, there) refl
 
--- what comes after the type of a record that was read leaves it its owner
-body_owner : (owner : NameValue) (type : RecordType) (bytes : List ℕ) (i : ℕ) (r : Record RData × ℕ)
-    → body_at owner type bytes i ≡ Ok r → r.0.name ≡ owner
-unfolding body_at
-body_owner owner type bytes i r is =
-    let class = bind_ok (number_at w16 bytes i) _ r is in
-    let ttl = bind_ok (number_at w32 bytes class.value.1) _ r class.second in
-    let len = bind_ok (number_at w16 bytes ttl.value.1) _ r ttl.second in
-    let room = turned (nat_lt (length bytes) (len.value.1 + len.value.0)) _ _ r len.second in
-    let rdata = bind_ok (rdata_at type len.value.0 bytes len.value.1) _ r room.1 in
-    ap (λ (x : Record RData × ℕ). x.0.name) (sym (same_ok _ r rdata.second))
-
--- a record that was read has the owner that was read at its place
-pub record_owner : (bytes : List ℕ) (i : ℕ) (owner : NameValue) (e : ℕ) (r : Record RData × ℕ)
-    → name_at bytes i ≡ Ok (owner, e) → record_at bytes i ≡ Ok r → r.0.name ≡ owner
-unfolding record_at
-record_owner bytes i owner e r name is =
-    let first = bind_ok (name_at bytes i) _ r is in
-    let type = bind_ok (number_at w16 bytes first.value.1) _ r first.second in
-    let tested = turned (is_opt_type (type_of type.value.0) && not (length first.value.0.labels == 0)) _ _ r type.second
-    in
-    let same = same_ok first.value (owner, e) (sym first.first ∙ name) in
-    body_owner first.value.0 (type_of type.value.0) bytes type.value.1 r tested.1 ∙ ap (λ (x : NameValue × ℕ). x.0) same
-
 module _ (bytes : List ℕ) (i : ℕ) (inside : i ≤ length bytes) where
   -- a question or a record whose name isn't read is refused with its fault
   pub question_unnamed : (f : DecodeError) → Fails f (name_at bytes i) → Fails f (question_stop bytes i)
@@ -114,13 +84,10 @@ module _ (bytes : List ℕ) (i : ℕ) (inside : i ≤ length bytes) where
       fails
 
   -- a record that was read stands there with its owner and its fields
-  pub record_passed : (section : Section) (r : Record RData × ℕ) (owner : NameValue) (e : ℕ) (found : RecordFound)
-      → record_at bytes i ≡ Ok r → name_at bytes i ≡ Ok (owner, e)
-      → fields_found bytes i e ≡ Ok found
+  pub record_passed : (section : Section) (r : Record RData × ℕ) (e : ℕ) (found : RecordFound)
+      → record_at bytes i ≡ Ok r → name_at bytes i ≡ Ok (r.0.name, e) → fields_found bytes i e ≡ Ok found
       → record_stop section bytes i ≡ Ok (record { section = section; name = r.0.name; found = found }, r.1)
-  record_passed section r owner e found read name fields =
-      let owned = record_owner bytes i owner e r name read in
-      rw (before_is bytes i inside, read, name, fields, owned) refl
+  record_passed section r e found read name fields = rw (before_is bytes i inside, read, name, fields) refl
 
 -- a new reader that passed the bytes before a place finds the fields that stand there
 pub fields_there : (B again : List ℕ) (i e place at : ℕ) (fresh after : Reader) (text : List ℕ) → fresh ≡ begun again

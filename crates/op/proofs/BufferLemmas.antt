@@ -7,13 +7,14 @@ use Rattle.base.specs.declared.error.proto_error.ProtoError.{ProtoError}
 use Rattle.base.specs.declared.error.proto_error.ProtoError.TheVariants as refusals
 use Rattle.base.specs.Reader.{Reader, begun}
 use Rattle.base.specs.Reading.{Fails, Reads}
+use Rattle.base_data.proofs.Tells.{same_ok}
 use Rattle.op.specs.Message.{IsMessageAt, MessageValue, message_at, message_value}
 use Rattle.op.specs.declared.message.Message.{Message}
 use Rattle.op.specs.Fits.{Fits}
 use Rattle.op.specs.ReadsOrDecodes.{FailsToDecode, ReadsOrDecodes}
-use Rattle.op.proofs.SectionStands.{same_ok}
 use Rattle.op.proofs.ReadFits.{message_fits}
 use Rattle.op.proofs.MessageStands.{message_again, message_stands}
+use Rattle.op.proofs.RunLemmas.{same_err}
 
 -- a call that fails where there is a value to read was refused memory
 want_of_memory : {A : Type 0} (f : DecodeError) (r : Result A DecodeError) (x : A) → Fails f r → r ≡ Ok x → f ≡ faults.Memory
@@ -31,7 +32,7 @@ begins B old new (Err f) is reads = tt
 
 pub begins_with : (B : List ℕ) (old new : Reader) (r : Result Message DecodeError) → old ≡ begun B → Reads message_value old new r (message_at old.bytes old.index)
     → (m : MessageValue) (e : ℕ) → IsMessageAt B 0 m e → MatchResult r (λ read. message_value read ≡ m) (λ f. f ≡ faults.Memory)
-begins_with B old new (Ok read) is reads m e stands = ap (λ (x : MessageValue × ℕ). x.0) (same_ok (sym (begin B old new (Ok read) is reads).0 ∙ message_again B 0 m e stands))
+begins_with B old new (Ok read) is reads m e stands = ap (λ (x : MessageValue × ℕ). x.0) (same_ok _ _ (sym (begin B old new (Ok read) is reads).0 ∙ message_again B 0 m e stands))
 begins_with B old new (Err f) is reads m e stands = want_of_memory f (message_at B 0) (m, e) (begin B old new (Err f) is reads) (message_again B 0 m e stands)
 
 -- a call that fails was refused memory, or with the fault that reading meets
@@ -45,15 +46,12 @@ pub first_fault : {A Y : Type 0} (view : A → Y) (IsFault : DecodeError → Typ
 first_fault view IsFault old new told (Ok x) reads = tt
 first_fault view IsFault old new {read = read} told (Err f) reads = elim (refused_or f read reads) [ inl memory ↦ inl memory | inr is ↦ inr (told f is) ]
 
-error_is : {A : Type 0} {e f : ProtoError} → ◌≡◌ {A = Result A ProtoError} (Err e) (Err f) → e ≡ f
-error_is is = cc
-
 -- the same where a refusal wraps one of reading
 pub decode_fault : {A Y : Type 0} (view : A → Y) (IsFault : DecodeError → Type 0) (old new : Reader) {read : Result (Y × ℕ) DecodeError} → ((f : DecodeError) → read ≡ Err f → IsFault f)
     → (r : Result A ProtoError) → ReadsOrDecodes view old new r read → (f : DecodeError) → r ≡ Err (refusals.Decode f) → (f ≡ faults.Memory) ⊎ IsFault f
 decode_fault view IsFault old new told (Ok x) reads f is = absurd cc
-decode_fault view IsFault old new {read = read} told (Err e) reads f is =
-    elim (refused_or f read (subst (λ (x : ProtoError). FailsToDecode x read) (error_is is) reads)) [ inl memory ↦ inl memory | inr met ↦ inr (told f met) ]
+decode_fault {A} view IsFault old new {read = read} told (Err e) reads f is =
+    elim (refused_or f read (subst (λ (x : ProtoError). FailsToDecode x read) (same_err {Y = A} _ _ is) reads)) [ inl memory ↦ inl memory | inr met ↦ inr (told f met) ]
 
 pub read_fits : (B : List ℕ) (old new : Reader) (r : Result Message DecodeError) → old ≡ begun B → Reads message_value old new r (message_at old.bytes old.index)
     → IfOk r (λ m. Fits (message_value m))

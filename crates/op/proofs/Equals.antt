@@ -1,5 +1,6 @@
 -- What the derived `==` answers.
 use Rattle.std.proofs.Common.{◌≡◌, ℕ, Bool, true, false, ◌&&◌, refl, ap, rules}
+use Rattle.std.proofs.lemmas.Bool.{and_from}
 use Rattle.std.specs.Prelude.{◌==◌}
 use Rattle.std.specs.Bool.{Decides}
 use Rattle.std.specs.Cmp.{booleans_Decides, unsigned_Decides, first_so, second_so}
@@ -21,13 +22,9 @@ use Rattle.op.specs.declared.header.metadata.Metadata.{Metadata}
 use Rattle.op.specs.declared.op_code.OpCode.{OpCode}
 use Rattle.op.specs.declared.response_code.ResponseCode.{ResponseCode}
 
-both_so : (s t : Bool) → s ≡ true → t ≡ true → (s && t) ≡ true
-both_so true t h g = g
-both_so false t h g = h
-
 -- where two tests decide two facts, their conjunction decides both
 pub both_Decides : {P Q : Type 0} → (s t : Bool) → Decides s P → Decides t Q → Decides (s && t) (P × Q)
-both_Decides s t p q = (λ h. (p.0 (first_so s t h), q.0 (second_so s t h)), λ f. both_so s t (p.1 f.0) (q.1 f.1))
+both_Decides s t p q = (λ h. (p.0 (first_so s t h), q.0 (second_so s t h)), λ f. and_from s t (p.1 f.0) (q.1 f.1))
 
 -- two values of a variant without fields, and two of one with a number
 abbrev same : Unit {0} → Unit {0} → Bool

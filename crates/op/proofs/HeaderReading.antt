@@ -8,6 +8,7 @@ use Rattle.base.specs.Reading.{Read, ◌>>=◌, byte_at, number_at}
 use Rattle.base.specs.Spelling.{ByteAt, anywhere}
 use Rattle.base.specs.Words.{IsNumberAt}
 use Rattle.base.proofs.ReadLemmas.{bind_ok, bind_err, number_is, number_short, number_again, byte_is, byte_short, byte_again, IsShort}
+use Rattle.base_data.proofs.Tells.{same_ok}
 use Rattle.op.specs.Header.{IsHeaderAt, RawHeader, header_at, header_value, metadata_of_bytes, bit_of}
 use Rattle.op.specs.declared.header.Header.{Header}
 use Rattle.op.specs.declared.header.header_counts.HeaderCounts.{HeaderCounts}
@@ -32,9 +33,6 @@ raw_of id high low counts = record {
   code = low % 16;
   counts = counts;
 }
-
-ok_same : {A : Type 0} (x y : A) → ◌≡◌ {A = Result A DecodeError} (Ok x) (Ok y) → x ≡ y
-ok_same x y is = cc
 
 -- the header of fields that stand there
 pub header_there : {B : List ℕ} {i id high low : ℕ} (counts : HeaderCounts) → IsNumberAt w16 B i id → ByteAt anywhere B (i + 2) high → ByteAt anywhere B (i + 3) low
@@ -106,7 +104,7 @@ header_is B i r is =
     (byte_moved B high.1 (i + 3) low.0 p1 low_is.stands) (number_moved B low.1 (i + 4) queries.0 p2 queries_is.stands)
     (number_moved B queries.1 (i + 6) answers.0 p3 answers_is.stands) (number_moved B answers.1 (i + 8) authorities.0 p4 authorities_is.stands)
     (number_moved B authorities.1 (i + 10) additionals.0 p5 additionals_is.stands) in
-    let same : (header, additionals.1) ≡ r = ok_same (header, additionals.1) r is7 in
+    let same : (header, additionals.1) ≡ r = same_ok (header, additionals.1) r is7 in
     subst (IsReadHeader B i) same (record { word = there; after = p6 }))))))))
 
 later : (B : List ℕ) (e e' : ℕ) (f : DecodeError) → e ≤ e' → IsShort B e f → IsShort B e' f

@@ -13,6 +13,7 @@ use Rattle.base_data.specs.declared.rdata.RData.{RData}
 use Rattle.rr.specs.Record.{IsRecordAt, is_opt_type}
 use Rattle.rr.specs.declared.record.Record.{Record}
 use Rattle.rr.proofs.ReadRecords.{opt_is, reads_record}
+use Rattle.base_data.proofs.Tells.{same_ok}
 use Rattle.op.specs.Header.{header_at}
 use Rattle.op.specs.Message.{IsMessageAt, MessageValue, message_at, message_of}
 use Rattle.op.specs.Query.{IsQueryAt, query_at}
@@ -22,7 +23,7 @@ use Rattle.op.specs.declared.op_code.OpCode.{OpCode}
 use Rattle.op.specs.declared.query.Query.{Query}
 use Rattle.op.proofs.HeaderReading.{read_then, reads_word}
 use Rattle.op.proofs.QueryLemmas.{reads_question}
-use Rattle.op.proofs.SectionStands.{IsSection, same_ok, section_is, section_read}
+use Rattle.op.proofs.SectionStands.{IsSection, section_is, section_read}
 use Rattle.op.proofs.SectionWords.{Stand}
 
 -- ---- sections outside additionals hold ordinary records alone
@@ -150,7 +151,7 @@ message_stands B i r is =
     read_then (section_at false op h.counts.answers B queries.1) _ all all_read (λ answers answers_read is4.
     read_then (section_at false op h.counts.authorities B answers.1) _ all is4 (λ authorities authorities_read is5.
     read_then (section_at true op h.counts.additionals B authorities.1) _ all is5 (λ additionals additionals_read is6.
-    let three : (record { answers = answers.0; authorities = authorities.0; additionals = additionals.0 }, additionals.1) ≡ all = same_ok is6 in
+    let three : (record { answers = answers.0; authorities = authorities.0; additionals = additionals.0 }, additionals.1) ≡ all = same_ok _ _ is6 in
     let stands = (reads_word B i h header.1).0 header_read in
     let qs = queries_stand B h.counts.queries header.1 queries queries_read in
     let first = plain_stand op B h.counts.answers queries.1 answers answers_read in
@@ -158,7 +159,7 @@ message_stands B i r is =
     let third = records_stand true op B h.counts.additionals authorities.1 additionals additionals_read in
     let m : MessageValue = message_of h.metadata queries.0 answers.0.records authorities.0.records additionals.0 in
     let made : SectionsValue × ℕ → MessageValue × ℕ = λ s. (message_of h.metadata queries.0 s.0.answers.records s.0.authorities.records s.0.additionals, s.1) in
-    let same : (m, additionals.1) ≡ r = ap made three ∙ same_ok is3 in
+    let same : (m, additionals.1) ≡ r = ap made three ∙ same_ok _ _ is3 in
     let word : IsMessageAt B i m additionals.1 = record {
       header = h;
       queries_end = queries.1;
@@ -215,5 +216,5 @@ reads_message B i m e = (message_stands B i (m, e), message_again B i m e)
 -- a place begins one message at most
 pub one_message : (B : List ℕ) (i : ℕ) (m n : MessageValue) (e f : ℕ) → IsMessageAt B i m e → IsMessageAt B i n f → (m ≡ n) × (e ≡ f)
 one_message B i m n e f a b =
-    let same : (m, e) ≡ (n, f) = same_ok (sym (message_again B i m e a) ∙ message_again B i n f b) in
+    let same : (m, e) ≡ (n, f) = same_ok _ _ (sym (message_again B i m e a) ∙ message_again B i n f b) in
     (ap (λ (x : MessageValue × ℕ). x.0) same, ap (λ (x : MessageValue × ℕ). x.1) same)

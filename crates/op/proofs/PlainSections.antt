@@ -5,10 +5,11 @@ use Rattle.base_data.specs.Kinds.{type_of_data}
 use Rattle.base_data.specs.declared.rdata.RData.{RData}
 use Rattle.rr.specs.Record.{record_at}
 use Rattle.rr.specs.declared.record.Record.{Record}
+use Rattle.base_data.proofs.Tells.{same_ok}
 use Rattle.op.specs.Section.{SectionValue, empty_section, fault_in_section, is_additional, section_at, section_from, section_with, tested}
 use Rattle.op.specs.declared.op_code.OpCode.{OpCode}
 use Rattle.op.proofs.MessageStands.{not_opt, not_signature}
-use Rattle.op.proofs.SectionStands.{same_ok, unless_ok}
+use Rattle.op.proofs.SectionStands.{unless_ok}
 use Rattle.op.proofs.SectionWords.{follow_stand}
 
 -- one section has the EDNS and the signature of another
@@ -22,7 +23,7 @@ one_more s r elsewhere = rw (not_opt (type_of_data r.rdata) elsewhere, not_signa
 pub ends_stay : (op : OpCode) (B : List ℕ) (n i : ℕ) (s t : SectionValue) (e : ℕ) → section_from false op s n B i ≡ Ok (t, e) → SameEnds s t
 unfolding section_from
 ends_stay op B zero i s t e is =
-    let same : s ≡ t = ap (λ (x : SectionValue × ℕ). x.0) (same_ok is) in
+    let same : s ≡ t = ap (λ (x : SectionValue × ℕ). x.0) (same_ok _ _ is) in
     rw same (record { edns = refl; signature = refl })
 ends_stay op B (suc n) i s t e is =
     let next = bind_ok (record_at B i) _ (t, e) is in

@@ -15,6 +15,7 @@ use Rattle.base.specs.declared.error.decode_error.DecodeError.{DecodeError}
 use Rattle.base.specs.declared.record_type.RecordType.{RecordType}
 use Rattle.base.proofs.ReadLemmas.{bind_ok, bind_err, number_is, number_again, number_short}
 use Rattle.base.proofs.ReadingLemmas.{name_is, name_fault, name_again, fault_again}
+use Rattle.base_data.proofs.Tells.{same_ok}
 use Rattle.op.specs.Query.{FitsQuery, IsQueryAt, IsQueryFault, IsRawQueryAt, RawQuery, query_at, query_value, raw_query}
 use Rattle.op.specs.declared.query.Query.{Query}
 
@@ -36,9 +37,6 @@ query_read {owner} {m} {type} {class} B i owner_is type_stands class_stands q_is
 -- a question that was read, and the place after it
 record IsReadQuery (B : List ℕ) (i : ℕ) (r : Query × ℕ) : Type 0 where
   word : IsQueryAt B i r.0 r.1
-
-same_ok : {A : Type 0} (x y : A) → ◌≡◌ {A = Result A DecodeError} (Ok x) (Ok y) → x ≡ y
-same_ok x y is = cc
 
 query_is : (B : List ℕ) (i : ℕ) (r : Query × ℕ) → query_at B i ≡ Ok r → IsReadQuery B i r
 unfolding query_at

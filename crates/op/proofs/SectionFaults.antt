@@ -1,6 +1,6 @@
 -- The first fault of a section.
 use Rattle.std.proofs.Common.{◌≡◌, ◌⊎◌, ℕ, ◌<◌, Bool, true, false, cond, List, [], ◌∷◌, length, zero, suc, inl, inr, refl, sym, ◌∙◌, subst, arith, Err, Option, Some, None}
-use Rattle.std.proofs.lemmas.Bool.{true≢false}
+use Rattle.std.proofs.lemmas.Bool.{and_from, and_parts, true≢false}
 use Rattle.std.specs.Prelude.{◌↔◌, ◌≢◌, ◌&&◌, ◌||◌, not, is_some}
 use Rattle.base.specs.Words.{BackToBack}
 use Rattle.base.specs.Words.BackToBack.{none, more}
@@ -52,13 +52,6 @@ outside_of false additional is = (refl, is)
 from_outside : (inside additional : Bool) → inside ≡ false → additional ≡ true → (not inside && additional) ≡ true
 from_outside inside additional p q = rw (p, q) refl
 
-both_true : (e o : Bool) → (e && o) ≡ true → (e ≡ true) × (o ≡ true)
-both_true true o is = (refl, is)
-both_true false o is = cc
-
-from_both : (e o : Bool) → e ≡ true → o ≡ true → (e && o) ≡ true
-from_both e o p q = rw (p, q) refl
-
 there : {X : Type 0} (o : Option X) → is_some o ≡ true → o ≢ None
 there None is = cc
 there (Some x) is = λ none. cc
@@ -90,7 +83,7 @@ module _ (inside : Bool) (op : OpCode) (s : SectionValue) (r : Record RData) whe
       (λ test same. let p = outside_of inside (is_additional r) test in subst (IsMisplaced inside op s r) (sym same) (elsewhere given unsigned p.0 p.1))
       (λ test3 is3.
       pick (is_some s.edns && is_opt r) _ f None (IsMisplaced inside op s r f) is3
-      (λ test same. let p = both_true (is_some s.edns) (is_opt r) test in
+      (λ test same. let p = and_parts (is_some s.edns) (is_opt r) test in
       subst (IsMisplaced inside op s r) (sym same) (second_edns given unsigned (placed_from inside (is_additional r) test3) (there s.edns p.0) p.1))
       (λ test4 is4. cc))))
 
@@ -104,7 +97,7 @@ module _ (inside : Bool) (op : OpCode) (s : SectionValue) (r : Record RData) whe
       passes_on _ _ _ (not_bare given) ∙ passes_on _ _ _ (is_absent s.signature unsigned) ∙ fails_here _ _ _ (from_outside inside (is_additional r) outside additional)
   refused f (second_edns given unsigned placed edns opt) =
       passes_on _ _ _ (not_bare given) ∙ passes_on _ _ _ (is_absent s.signature unsigned) ∙ passes_on _ _ _ (from_placed inside (is_additional r) placed)
-      ∙ fails_here _ _ _ (from_both (is_some s.edns) (is_opt r) (is_there s.edns edns) opt)
+      ∙ fails_here _ _ _ (and_from (is_some s.edns) (is_opt r) (is_there s.edns edns) opt)
 
 -- ---- the records before it
 

@@ -1,5 +1,5 @@
 -- Sections that stand are sections that are read.
-use Rattle.std.proofs.Common.{◌≡◌, ℕ, Bool, false, List, [], ◌∷◌, length, zero, suc, refl, sym, ◌∙◌, subst, arith, Result, Ok, Option, Some, None}
+use Rattle.std.proofs.Common.{◌≡◌, ℕ, Bool, false, List, [], ◌∷◌, length, zero, suc, refl, sym, ◌∙◌, subst, arith, Ok, Option, Some, None}
 use Rattle.base.specs.declared.error.decode_error.DecodeError.{DecodeError}
 use Rattle.base.specs.Words.{BackToBack}
 use Rattle.base.specs.Words.BackToBack.{none, more}
@@ -7,6 +7,7 @@ use Rattle.base.proofs.ReadLemmas.{bind_ok}
 use Rattle.base_data.specs.declared.rdata.RData.{RData}
 use Rattle.rr.specs.Record.{IsRecordAt, record_at}
 use Rattle.rr.specs.declared.record.Record.{Record}
+use Rattle.base_data.proofs.Tells.{same_ok}
 use Rattle.op.specs.Section.{SectionValue, empty_section, fault_in_section, section_at, section_from, section_of, tested, unless_fault, section_with}
 use Rattle.op.specs.declared.op_code.OpCode.{OpCode}
 use Rattle.op.proofs.SectionWords.{Follow, Stand, folded, folded_section, follow_stand, stand_follow}
@@ -19,22 +20,19 @@ pub record Section (inside : Bool) (op : OpCode) (s : SectionValue) (B : List �
   pub follow : Follow inside op s records
   pub whole : r.0 ≡ folded s records
 
-pub same_ok : {A : Type 0} {x y : A} → ◌≡◌ {A = Result A DecodeError} (Ok x) (Ok y) → x ≡ y
-same_ok is = cc
-
 pub record Taken (f : Option DecodeError) (s t : SectionValue) : Type 0 where
   pub passes : f ≡ None
   pub same : s ≡ t
 
 pub unless_ok : (f : Option DecodeError) (s t : SectionValue) → unless_fault f s ≡ Ok t → Taken f s t
-unless_ok None s t is = record { passes = refl; same = same_ok is }
+unless_ok None s t is = record { passes = refl; same = same_ok _ _ is }
 unless_ok (Some f) s t is = cc
 
 section_stands : (inside : Bool) (op : OpCode) (B : List ℕ) → ((i : ℕ) (r : Record RData) (e : ℕ) → record_at B i ≡ Ok (r, e) → IsRecordAt B i r e)
     → (n i : ℕ) (s : SectionValue) (r : SectionValue × ℕ) → section_from inside op s n B i ≡ Ok r → Section inside op s B n i r
 unfolding section_from
 section_stands inside op B stands zero i s r is =
-    let same : (s, i) ≡ r = same_ok is in
+    let same : (s, i) ≡ r = same_ok _ _ is in
     subst (λ x. Section inside op s B 0 i x) same (record { records = []; words = none; counted = refl; follow = tt; whole = refl })
 section_stands inside op B stands (suc n) i s r is =
     let next = bind_ok (record_at B i) _ r is in

@@ -6,6 +6,7 @@ use Rattle.std.specs.Option.{option_map, option_or}
 use Rattle.std.proofs.lemmas.List.{append-nil}
 use Rattle.std.proofs.lemmas.List.Elements.{All-append, All-cons, All-nil, All-tail, filter-append}
 use Rattle.std.proofs.lemmas.List.Folds.{find-append}
+use Rattle.std.proofs.Math.Bool.{or-true}
 use Rattle.base_data.specs.OPT.{OptionValue}
 use Rattle.base_data.specs.declared.rdata.RData.{RData}
 use Rattle.rr.specs.declared.record.Record.{Record}
@@ -96,10 +97,6 @@ listed : {X Y : Type 0} (P : Y → Type 0) (f : X → Y) → ((x : X) → P (f x
 listed P f holds None = All-nil P
 listed P f holds (Some x) = All-cons P (f x) [] (holds x) (All-nil P)
 
-either : (b : Bool) → (b || true) ≡ true
-either true = refl
-either false = refl
-
 ordinary : (o g : Bool) → o ≡ false → g ≡ false → not (o || g) ≡ true
 ordinary o g is isnt = rw (is, isnt) refl
 
@@ -130,7 +127,7 @@ module _ (ds : List (Record RData)) (op : OpCode) (fits : All (FitsAdditional op
   all_given =
       All-append (HasNeededData op) ds (tail edns signature) (λ k d below. (fits k d below).given)
       (All-append (HasNeededData op) (as_list (option_map edns_record edns)) (as_list (option_map signature_record signature))
-      (listed (HasNeededData op) edns_record (λ e empty. rw (opt_is_opt e) (either (is_update op))) edns)
+      (listed (HasNeededData op) edns_record (λ e empty. rw (opt_is_opt e) (or-true (is_update op))) edns)
       (listed (HasNeededData op) signature_record (λ s empty. absurd (true≢false (sym empty))) signature))
 
   ends_after : (xs t : List (Record RData)) → All (λ r. is_signature r ≡ false) xs → EndsWithSignature t → EndsWithSignature (xs ++ t)

@@ -6,7 +6,7 @@ use Rattle.base_data.specs.declared.rdata.RData.{RData}
 use Rattle.op_use.proofs.AppliedData.{distinct_joined}
 use Rattle.op_use.proofs.HeldSteps.{put_back, removed_map}
 use Rattle.op_use.proofs.KeptSets.{put_map}
-use Rattle.op_use.proofs.MapSteps.{injected, kept_after, puts_again}
+use Rattle.op_use.proofs.MapSteps.{kept_after, puts_again}
 use Rattle.op_use.proofs.LeftSets.{none_left, set_left, set_left_fits}
 use Rattle.op_use.proofs.WholeSteps.{map_copy}
 use Rattle.op_use.proofs.ZoneSteps.{same_key, tied}
@@ -20,6 +20,7 @@ use Rattle.rr.specs.SetChanges.{joined}
 use Rattle.rr.specs.SetUpdates.{last_ttl, with_records, without, without_data}
 use Rattle.rr.specs.declared.record.Record.{Record}
 use Rattle.std.proofs.Common.{ap, inl, inr, refl, subst, sym, ◌∙◌, ◌⊎◌}
+use Rattle.std.proofs.lemmas.Option.{same_Some}
 use Rattle.std.specs.BTreeMap as tree
 use Rattle.std.specs.BTreeMap.{BTreeMap, is_at}
 use Rattle.std.specs.List.{IsDistinct, list_any}
@@ -181,7 +182,7 @@ less_there class ch new m n k h first next = record {
 
 put_is : (class : DNSClass) (k : RrKey) (t : SetValue) (ch : Sets) (q : RrKey) (s : SetValue) (b : Bool) → eq_by_cmp key_cmp k q ≡ b → IsZoneMap class ch → IsZoneSet class k t
     → cond b (Some t) (tree.get key_cmp ch q) ≡ Some s → IsZoneSet class q s
-put_is class k t ch q s true e h fits is = subst (λ p. IsZoneSet class p s) (same_key k q e) (subst (λ x. IsZoneSet class k x) (injected t s is) fits)
+put_is class k t ch q s true e h fits is = subst (λ p. IsZoneSet class p s) (same_key k q e) (subst (λ x. IsZoneSet class k x) (same_Some t s is) fits)
 put_is class k t ch q s false e h fits is = h q s is
 
 -- one more of them
@@ -244,8 +245,8 @@ pub set_joined : (class : DNSClass) (k : RrKey) (r : Record RData) (s t : SetVal
 set_joined class k r s t m n fits e is puts = record {
   set = Some t;
   records = ap (λ (x : SetValue). x.records) is ∙ ap (λ o. joined r (records_in o)) (sym e);
-  fits = λ x f. subst (λ y. IsZoneSet class k y) (injected t x f) (joined_fits class k r s t fits is);
-  ttl = λ x f. inr (subst (λ (y : SetValue). y.ttl ≡ last_ttl y.records) (injected t x f) (subst (λ (y : SetValue). y.ttl ≡ last_ttl y.records) (sym is) refl));
+  fits = λ x f. subst (λ y. IsZoneSet class k y) (same_Some t x f) (joined_fits class k r s t fits is);
+  ttl = λ x f. inr (subst (λ (y : SetValue). y.ttl ≡ last_ttl y.records) (same_Some t x f) (subst (λ (y : SetValue). y.ttl ≡ last_ttl y.records) (sym is) refl));
   puts = puts;
 }
 
@@ -259,8 +260,8 @@ set_begun class k r s m mid n own none same is puts =
     record {
       set = Some s;
       records = ap (λ (x : SetValue). x.records) is ∙ ap (λ o. joined r (records_in o)) (sym none);
-      fits = λ x f. subst (λ y. IsZoneSet class k y) (injected s x f) fits;
-      ttl = λ x f. inr (subst (λ (y : SetValue). y.ttl ≡ last_ttl y.records) (sym is ∙ injected s x f) refl);
+      fits = λ x f. subst (λ y. IsZoneSet class k y) (same_Some s x f) fits;
+      ttl = λ x f. inr (subst (λ (y : SetValue). y.ttl ≡ last_ttl y.records) (sym is ∙ same_Some s x f) refl);
       puts = subst (λ (x : Sets). Puts k (Some s) x n) same puts.0;
     }
 

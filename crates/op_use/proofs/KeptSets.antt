@@ -20,6 +20,7 @@ use Rattle.rr.specs.SetUpdates.{last_ttl}
 use Rattle.rr.specs.declared.record.Record.{Record}
 use Rattle.std.proofs.Common.{ap, inl, inr, refl, subst, sym, ◌∙◌, ◌⊎◌}
 use Rattle.std.proofs.lemmas.List.Folds.{list_any-append}
+use Rattle.std.proofs.Math.Bool.{or-false}
 use Rattle.std.specs.BTreeMap as tree
 use Rattle.std.specs.BTreeMap.{BTreeMap}
 use Rattle.std.specs.FinMap.{FinMap}
@@ -189,14 +190,10 @@ pub same_class : (test : RrKey → Bool) (old : BTreeMap RrKey SetValue) (now ne
 same_class test old now new h before = subst (λ (z : HeldZone). IsZoneMap z.class old) (sym h.1) before
 
 -- the updates so far, and one more
-or_false : (b : Bool) → (b || false) ≡ b
-or_false true = refl
-or_false false = refl
-
 module _ (es : List (Record RData)) (i : ℕ) (r : Record RData) (k : RrKey) (below : i < length es) (is : r ≡ slice_index_or es i r) (own : k ≡ record_key r) where
   more_named : (q : RrKey) → names_set (take (i + 1) es) q ≡ (names_set (take i es) q || eq_by_cmp key_cmp k q)
   more_named q = ap (λ xs. names_set xs q) (sym (taken_more es i r below is)) ∙ list_any-append (λ x. is_under x q) (take i es) (r ∷ [])
-      ∙ ap (λ b. names_set (take i es) q || b) (or_false (is_under r q) ∙ ap (λ p. eq_by_cmp key_cmp p q) (sym own))
+      ∙ ap (λ b. names_set (take i es) q || b) (or-false (is_under r q) ∙ ap (λ p. eq_by_cmp key_cmp p q) (sym own))
 
   pub named_both : (q : RrKey) → names_set (take (i + 1) es) q ≡ true → (names_set (take i es) q || eq_by_cmp key_cmp k q) ≡ true
   named_both q h = sym (more_named q) ∙ h

@@ -7,6 +7,7 @@ use Rattle.base.specs.RecordType.{same_type, type_cmp, type_number, type_rank}
 use Rattle.base.specs.RrKey.{key_cmp, key_of}
 use Rattle.base.specs.declared.record_type.RecordType.{RecordType}
 use Rattle.std.proofs.Common.{refl, sym, ◌∙◌}
+use Rattle.std.proofs.Math.Bool.{and_comm}
 use Rattle.std.specs.Ordering.{eq_by_cmp, is_eq, ordering_then}
 use Rattle.std.specs.Prelude.{Bool, false, true, ◌&&◌, ◌≡◌}
 use Rattle.std.specs.declared.cmp.Ordering.TheVariants.{Equal, Greater, Less}
@@ -17,13 +18,7 @@ both_eq Less y = refl
 both_eq Equal y = refl
 both_eq Greater y = refl
 
-turned : (x y : Bool) → (x && y) ≡ (y && x)
-turned true true = refl
-turned true false = refl
-turned false true = refl
-turned false false = refl
-
 -- keys are the same where types and names are
 pub same_key_is : (a b : NameValue) (s t : RecordType) → (same_type s t && same_name a b) ≡ eq_by_cmp key_cmp (key_of a s) (key_of b t)
-same_key_is a b s t = turned (same_type s t) (same_name a b) ∙ (λ i. same_by-tie folded a b i && keys_match type_number type_rank s t i)
+same_key_is a b s t = and_comm (same_type s t) (same_name a b) ∙ (λ i. same_by-tie folded a b i && keys_match type_number type_rank s t i)
     ∙ sym (both_eq (lower_cmp (lowered a) (lowered b)) (type_cmp s t))

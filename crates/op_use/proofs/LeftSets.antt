@@ -4,13 +4,13 @@ use Rattle.base.specs.declared.dns_class.DNSClass.{DNSClass}
 use Rattle.base.specs.declared.rr_key.RrKey.{RrKey}
 use Rattle.base_data.specs.declared.rdata.RData.{RData}
 use Rattle.op_use.proofs.Deletions.{distinct_without, left_records}
-use Rattle.op_use.proofs.MapSteps.{injected}
 use Rattle.op_use.specs.Applying.{IsZoneSet, records_at, records_in}
 use Rattle.op_use.specs.MapUpdates.{IsSetTo, Puts}
 use Rattle.rr.specs.RecordSet.{SetValue}
 use Rattle.rr.specs.SetUpdates.{has_data_of_one, last_ttl, with_records, without, without_data}
 use Rattle.rr.specs.declared.record.Record.{Record}
 use Rattle.std.proofs.Common.{ap, inl, inr, refl, subst, sym, ◌∙◌, ◌⊎◌}
+use Rattle.std.proofs.lemmas.Option.{same_Some}
 use Rattle.std.specs.BTreeMap as tree
 use Rattle.std.specs.BTreeMap.{BTreeMap}
 use Rattle.std.specs.List.{list_any}
@@ -37,8 +37,8 @@ pub set_left : (class : DNSClass) (k : RrKey) (es : List (Record RData)) (s t : 
 set_left class k es s t m n old e is full puts = record {
   set = Some t;
   records = ap (λ (q : SetValue). q.records) is ∙ left_records es s ∙ ap (λ o. without es (records_in o)) (sym e);
-  fits = λ q f. subst (λ x. IsZoneSet class k x) (injected t q f) (set_left_fits class k es s t old is full);
-  ttl = λ q f. subst (λ (x : SetValue). (tree.get key_cmp m k ≡ Some x) ⊎ (x.ttl ≡ last_ttl x.records)) (sym is ∙ injected t q f)
+  fits = λ q f. subst (λ x. IsZoneSet class k x) (same_Some t q f) (set_left_fits class k es s t old is full);
+  ttl = λ q f. subst (λ (x : SetValue). (tree.get key_cmp m k ≡ Some x) ⊎ (x.ttl ≡ last_ttl x.records)) (sym is ∙ same_Some t q f)
       (left_ttl m k es s (list_any (has_data_of_one es) s.records) e);
   puts = puts;
 }

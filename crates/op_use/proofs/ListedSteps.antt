@@ -16,6 +16,7 @@ use Rattle.rr.specs.declared.record.Record.{Record}
 use Rattle.std.proofs.Common.{ap, arith, is_some, refl, sym, ◌∙◌}
 use Rattle.std.proofs.lemmas.Bool.{and_from}
 use Rattle.std.proofs.lemmas.List.Folds.{list_any_at}
+use Rattle.std.proofs.Math.Bool.{and-false, and-true}
 use Rattle.std.specs.BTreeMap as tree
 use Rattle.std.specs.BTreeMap.{BTreeMap}
 use Rattle.std.specs.List.{IsAmong, list_all, list_any}
@@ -56,16 +57,12 @@ all_done p (y ∷ ys) (suc i) b h left = all_done p ys i b (omega arith) left
 pub among_any : (p : Record RData → Bool) (xs : List (Record RData)) (x : Record RData) → IsAmong xs x → p x ≡ true → list_any p xs ≡ true
 among_any p xs x h good = list_any_at p xs h.0 x h.1.0 (ap p (sym h.1.1) ∙ good)
 
-and_false : (a : Bool) → (a && false) ≡ false
-and_false true = refl
-and_false false = refl
-
 pub set_false : (a b c : Bool) → (a && b) ≡ false → (a && (b && c)) ≡ false
 set_false true b c e = ap (λ x. x && c) e
 set_false false b c e = refl
 
 pub third_false : (a b c : Bool) → c ≡ false → (a && (b && c)) ≡ false
-third_false a b c e = ap (λ x. a && (b && x)) e ∙ ap (λ x. a && x) (and_false b) ∙ and_false a
+third_false a b c e = ap (λ x. a && (b && x)) e ∙ ap (λ x. a && x) (and-false b) ∙ and-false a
 
 -- a record by value that lists the data of x for the set of r
 pub asked_by : (class : DNSClass) (r x q : Record RData) (rs : List (Record RData)) → IsAmong rs q → same_data q.rdata x.rdata ≡ true → is_by_value class q ≡ true → is_same_key r q ≡ true
@@ -73,10 +70,6 @@ pub asked_by : (class : DNSClass) (r x q : Record RData) (rs : List (Record RDat
 asked_by class r x q rs among same own named =
     among_any (asks_for class r x) rs q among
     (and_from (is_by_value class q) (is_same_key r q && has_data_of q x) own (and_from (is_same_key r q) (has_data_of q x) named (laws.symm x.rdata q.rdata ∙ same)))
-
-and_true : (a : Bool) → (a && true) ≡ a
-and_true true = refl
-and_true false = refl
 
 module _ (m : BTreeMap RrKey SetValue) (class : DNSClass) (all : List (Record RData)) where
   -- whether a prerequisite passes, if it is by value
@@ -109,11 +102,11 @@ module _ (m : BTreeMap RrKey SetValue) (class : DNSClass) (all : List (Record RD
   -- whether it has the data of a record, where it has only data that is listed
   pub both_known : (r : Record RData) (k : RrKey) (b : Bool) → k ≡ record_key r → there_under m r (record_key r) ≡ b → complete_at m class all k ≡ true
       → b ≡ (there_under m r (record_key r) && complete_at m class all (record_key r))
-  both_known r k b same there good = sym ((λ i. there i && (ap (complete_at m class all) (sym same) ∙ good) i) ∙ and_true b)
+  both_known r k b same there good = sym ((λ i. there i && (ap (complete_at m class all) (sym same) ∙ good) i) ∙ and-true b)
 
   -- no set is there
   pub none_there : (r : Record RData) (k : RrKey) → k ≡ record_key r → tree.get key_cmp m k ≡ None → false ≡ (there_under m r (record_key r) && complete_at m class all (record_key r))
   none_there r k same e = ap (λ b. b && complete_at m class all (record_key r)) (sym (ap (there_under m r) (sym same) ∙ ap (list_any (has_data_of r)) (ap records_in e)))
 
   pub not_listed : (r : Record RData) (k : RrKey) → k ≡ record_key r → complete_at m class all k ≡ false → false ≡ (there_under m r (record_key r) && complete_at m class all (record_key r))
-  not_listed r k same bad = sym (ap (λ x. there_under m r (record_key r) && x) (ap (complete_at m class all) (sym same) ∙ bad) ∙ and_false (there_under m r (record_key r)))
+  not_listed r k same bad = sym (ap (λ x. there_under m r (record_key r) && x) (ap (complete_at m class all) (sym same) ∙ bad) ∙ and-false (there_under m r (record_key r)))

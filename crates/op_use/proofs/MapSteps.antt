@@ -27,7 +27,7 @@ use Rattle.std.specs.BTreeMap as tree
 use Rattle.std.specs.BTreeMap.{BTreeMap}
 use Rattle.std.specs.List.{IsAmong, fold}
 use Rattle.std.specs.Ordering.{eq_by_cmp}
-use Rattle.std.specs.Prelude.{Bool, List, None, Option, Some, [], cond, false, length, map, slice_index_or, suc, take, true, unwrap_or, zero, ℕ, ◌++◌, ◌+◌, ◌<◌}
+use Rattle.std.specs.Prelude.{Bool, List, None, Option, Some, [], cond, false, length, map, slice_index_or, suc, take, true, zero, ℕ, ◌++◌, ◌+◌, ◌<◌}
 use Rattle.std.specs.Prelude.{◌∷◌, ◌≡◌}
 
 -- the key of a record is of its owner
@@ -134,9 +134,6 @@ more_after origin class rs ss m n p first next = record {
 }
 
 -- the steps of a change of one set
-pub injected : (s p : SetValue) → Some s ≡ Some p → s ≡ p
-injected s p e = ap (λ o. unwrap_or o s) e
-
 pub moved : (class : DNSClass) (k q : RrKey) (xs ys : List (Record RData)) (m n : BTreeMap RrKey SetValue) → k ≡ q → xs ≡ ys → IsSetTo class k xs m n → IsSetTo class q ys m n
 moved class k q xs ys m n e f h = subst (λ j. IsSetTo class j ys m n) e (subst (λ zs. IsSetTo class k zs m n) f h)
 

@@ -14,6 +14,7 @@ use Rattle.std.proofs.Common.{ap, append_assoc, arith, refl, sym, ◌++◌, ◌�
 use Rattle.std.proofs.lemmas.Bool.{cond-false, cond-true, or_parts}
 use Rattle.std.proofs.lemmas.List.Sums.{take_while-cons}
 use Rattle.std.proofs.lemmas.Map.Keys.{sorted_head, sorted_tail}
+use Rattle.std.proofs.Math.Bool.{and-true}
 use Rattle.std.specs.BTreeMap.Range.{entries_between, range_contains}
 use Rattle.std.specs.BTreeMap.{is_at}
 use Rattle.std.specs.Cmp.{alike_right, eq_by_cmp_equiv, ranks}
@@ -54,16 +55,12 @@ by_name Greater t = refl
 abbrev against : NameValue → RrKey → Ordering
 against owner k = lower_cmp (lowered owner) k.name
 
-and_true : (b : Bool) → (b && true) ≡ b
-and_true true = refl
-and_true false = refl
-
 -- whether a key is at the least of an owner or after it
 abbrev pub is_from : NameValue → RrKey → Bool
 is_from owner k = range_contains key_cmp (Included (least owner)) Unbounded k
 
 from_is : (owner : NameValue) (k : RrKey) → is_from owner k ≡ is_le (against owner k)
-from_is owner k = and_true (is_le (key_cmp (least owner) k)) ∙ by_name (against owner k) k.record_type
+from_is owner k = and-true (is_le (key_cmp (least owner) k)) ∙ by_name (against owner k) k.record_type
 
 owned_is : (owner : NameValue) (k : RrKey) → is_owned owner k ≡ is_eq (against owner k)
 owned_is owner k = same_by-tie exact (lowered owner) k.name
@@ -185,7 +182,7 @@ module _ (owner : NameValue) (p : RrKey → Bool) {X : Type 0} where
 -- which of the keys that pass a test is q
 listed_step : (p : RrKey → Bool) (q k : RrKey) (c : Bool) (ks : List RrKey) (b s : Bool) → p k ≡ b → eq_by_cmp key_cmp k q ≡ s → list_any (λ x. eq_by_cmp key_cmp x q) ks ≡ (p q && c)
     → list_any (λ x. eq_by_cmp key_cmp x q) (cond b (k ∷ ks) ks) ≡ (p q && (s || c))
-listed_step p q k c ks true true e s more = ap (λ b. b || list_any (λ x. eq_by_cmp key_cmp x q) ks) s ∙ sym (and_true (p q) ∙ ap p (sym (same_key k q s)) ∙ e)
+listed_step p q k c ks true true e s more = ap (λ b. b || list_any (λ x. eq_by_cmp key_cmp x q) ks) s ∙ sym (and-true (p q) ∙ ap p (sym (same_key k q s)) ∙ e)
 listed_step p q k c ks true false e s more = ap (λ b. b || list_any (λ x. eq_by_cmp key_cmp x q) ks) s ∙ more
 listed_step p q k c ks false true e s more = more ∙ none ∙ sym none_all where
   free : p q ≡ false

@@ -1,11 +1,11 @@
 -- That updates may be applied to a parsed zone of one class.
-use Rattle.std.proofs.Common.{Bool, Option, Some, [], ap, cond, false, refl, subst, sym, true, ◌∷◌, ◌≡◌}
+use Rattle.std.proofs.Common.{Bool, Option, Some, [], cond, false, refl, subst, sym, true, ◌∷◌, ◌≡◌}
 use Rattle.std.proofs.lemmas.Bool.{and_parts}
+use Rattle.std.proofs.lemmas.Option.{same_Some}
 use Rattle.std.specs.BTreeMap.{BTreeMap, is_at}
 use Rattle.std.specs.List.{AllByRecursion}
 use Rattle.std.specs.Map.{lookup}
 use Rattle.std.specs.Ordering.{eq_by_cmp, is_eq}
-use Rattle.std.specs.Prelude.{unwrap_or}
 use Rattle.std.specs.declared.cmp.Ordering.TheVariants.{Less, Equal, Greater}
 use Rattle.std.specs.declared.cmp.Ordering.{Ordering}
 use Rattle.base.proofs.KeyLemmas.{key_cmp-exact}
@@ -31,13 +31,10 @@ tied Greater h = cc
 same_key : (q k : RrKey) → eq_by_cmp key_cmp q k ≡ true → q ≡ k
 same_key q k h = key_cmp-exact q k (tied _ h)
 
-injected : (s p : SetValue) → Some s ≡ Some p → s ≡ p
-injected s p e = ap (λ o. unwrap_or o s) e
-
 -- what holds of each entry holds of a set that is found
 found_at : (P : RrKey → SetValue → Type 0) (k : RrKey) (e : RrKey × SetValue) (b : Bool) (o : Option SetValue) (s : SetValue) → eq_by_cmp key_cmp k e.0 ≡ b → P e.0 e.1
     → (o ≡ Some s → P k s) → cond b (Some e.1) o ≡ Some s → P k s
-found_at P k e true o s t here later h = subst (λ q. P q s) (sym (same_key k e.0 t)) (subst (λ v. P e.0 v) (injected e.1 s h) here)
+found_at P k e true o s t here later h = subst (λ q. P q s) (sym (same_key k e.0 t)) (subst (λ v. P e.0 v) (same_Some e.1 s h) here)
 found_at P k e false o s t here later h = later h
 
 found : (P : RrKey → SetValue → Type 0) (k : RrKey) (es : ZoneSets) → AllByRecursion (λ (e : RrKey × SetValue). P e.0 e.1) es → (s : SetValue) → lookup (is_at (key_cmp k)) es ≡ Some s → P k s

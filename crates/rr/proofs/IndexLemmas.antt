@@ -13,6 +13,8 @@ use Rattle.std.specs.declared.alloc.Global.{Global}
 use Rattle.std.proofs.lemmas.Bool.{cases_lt, cases_Bool, cond-true, cond-false, or_parts}
 use Rattle.std.proofs.lemmas.List.{append-nil, get_or_append_left, get_or-append_right, get_or-set_same, get_or-set_other, length-map, length-set}
 use Rattle.std.proofs.lemmas.Map.Text.{is_eq-slice_cmp}
+use Rattle.std.proofs.lemmas.Option.{same_Some}
+use Rattle.std.proofs.Math.Bool.{or-false, or-true}
 use Rattle.base.specs.Labels.{wire_of}
 use Rattle.base.specs.RecordType.{same_type}
 use Rattle.base.proofs.LawLemmas.{none_is_not}
@@ -101,9 +103,6 @@ none_any : (rdata : RData) (rs : List (Record RData)) → ((i : ℕ) (d : Record
 none_any rdata [] h = refl
 none_any rdata (x ∷ xs) h = λ i. h 0 x (omega arith) i || none_any rdata xs (λ j d inside. h (suc j) d (omega arith)) i
 
-some_is : (i p : ℕ) → ◌≡◌ {A = Option ℕ} (Some i) (Some p) → i ≡ p
-some_is i p same = cc
-
 -- the index has no place for the data
 pub absent_none : (find : List ℕ → Option ℕ) (rs : List (Record RData)) (rdata : RData) → IsIndexOf find rs → find (canonical_data rdata) ≡ None
     → list_any (λ (x : Record RData). same_data x.rdata rdata) rs ≡ false
@@ -112,7 +111,7 @@ absent_none find rs rdata h none = none_any rdata rs (λ i d inside. other_at fi
 -- the place that it has is that of no record
 pub absent_past : (find : List ℕ → Option ℕ) (rs : List (Record RData)) (rdata : RData) (p : ℕ) → IsIndexOf find rs → find (canonical_data rdata) ≡ Some p → (p < length rs → ⊥)
     → list_any (λ (x : Record RData). same_data x.rdata rdata) rs ≡ false
-absent_past find rs rdata p h at past = none_any rdata rs (λ i d inside. other_at find rs rdata h i d inside (λ is. past (omega (arith, some_is i p (sym is ∙ at), inside))))
+absent_past find rs rdata p h at past = none_any rdata rs (λ i d inside. other_at find rs rdata h i d inside (λ is. past (omega (arith, same_Some i p (sym is ∙ at), inside))))
 
 -- the place that it has is that of other data
 pub absent_other : (find : List ℕ → Option ℕ) (rs : List (Record RData)) (rdata : RData) (p : ℕ) (e : Record RData) → IsIndexOf find rs → find (canonical_data rdata) ≡ Some p
@@ -121,7 +120,7 @@ absent_other find rs rdata p e h at is other = none_any rdata rs all where
   all : (i : ℕ) (d : Record RData) → i < length rs → same_data (get_or rs i d).rdata rdata ≡ false
   all i d inside = elim (cases_Bool (same_data (get_or rs i d).rdata rdata)) [
     | inl same ↦
-        let place : i ≡ p = some_is i p (sym (equal_at find rs rdata h i d inside same) ∙ at) in
+        let place : i ≡ p = same_Some i p (sym (equal_at find rs rdata h i d inside same) ∙ at) in
         let one : get_or rs i d ≡ get_or rs p e = get_or_any rs i p d e place inside in
         ap (λ (x : Record RData). same_data x.rdata rdata) (one ∙ sym is) ∙ other
     | inr differ ↦ differ
@@ -133,12 +132,8 @@ pub only_at : (find : List ℕ → Option ℕ) (rs : List (Record RData)) (rdata
 only_at find rs rdata p e h at inside is same = record {
   inside = inside;
   same = λ d. ap (λ (x : Record RData). same_data x.rdata rdata) (get_or_any rs p p d e refl inside ∙ sym is) ∙ same;
-  others = λ i d within other. other_at find rs rdata h i d within (λ here. other (some_is i p (sym here ∙ at)));
+  others = λ i d within other. other_at find rs rdata h i d within (λ here. other (same_Some i p (sym here ∙ at)));
 }
-
-or_true : (b : Bool) → (b || true) ≡ true
-or_true true = refl
-or_true false = refl
 
 replaced_at : (r : Record RData) (rs : List (Record RData)) (p : ℕ) → p < length rs → ((d : Record RData) → same_data (get_or rs p d).rdata r.rdata ≡ true)
     → ((i : ℕ) (d : Record RData) → i < length rs → i ≢ p → same_data (get_or rs i d).rdata r.rdata ≡ false) → replaced r rs ≡ set rs p r
@@ -155,7 +150,7 @@ any_here : (r : Record RData) (rs : List (Record RData)) (p : ℕ) → p < lengt
     → list_any (has_data_of r) rs ≡ true
 any_here r [] p inside same = absurd (omega arith)
 any_here r (x ∷ xs) zero inside same = ap (λ b. b || list_any (has_data_of r) xs) (same x)
-any_here r (x ∷ xs) (suc p) inside same = ap (λ b. has_data_of r x || b) (any_here r xs p (omega arith) same) ∙ or_true (has_data_of r x)
+any_here r (x ∷ xs) (suc p) inside same = ap (λ b. has_data_of r x || b) (any_here r xs p (omega arith) same) ∙ or-true (has_data_of r x)
 
 -- r joined to records of which one alone has its data stands in its place
 pub joined_at : (r : Record RData) (rs : List (Record RData)) (p : ℕ) → IsOnlyAt r.rdata rs p → set rs p r ≡ joined r rs
@@ -248,16 +243,12 @@ no_entry r (x ∷ xs) h =
     let first : (same_entry x r && nat_eq x.ttl r.ttl) ≡ false = sym (other_data x r parts.0) in
     λ i. first i || no_entry r xs parts.1 i
 
-or_false : (b : Bool) → (b || false) ≡ b
-or_false true = refl
-or_false false = refl
-
 entry_by : (r : Record RData) (rs : List (Record RData)) (p : ℕ) → p < length rs → ((i : ℕ) (d : Record RData) → i < length rs → i ≢ p → same_data (get_or rs i d).rdata r.rdata ≡ false)
     → (d : Record RData) → has_entry r rs ≡ (same_entry (get_or rs p d) r && nat_eq (get_or rs p d).ttl r.ttl)
 entry_by r [] p inside others d = absurd (omega arith)
 entry_by r (x ∷ xs) zero inside others d =
     let rest : has_entry r xs ≡ false = no_entry r xs (none_any r.rdata xs (λ j e within. others (suc j) e (omega arith) (λ q. absurd (omega (arith, q))))) in
-    ap (λ b. (same_entry x r && nat_eq x.ttl r.ttl) || b) rest ∙ or_false (same_entry x r && nat_eq x.ttl r.ttl)
+    ap (λ b. (same_entry x r && nat_eq x.ttl r.ttl) || b) rest ∙ or-false (same_entry x r && nat_eq x.ttl r.ttl)
 entry_by r (x ∷ xs) (suc p) inside others d =
     let first : (same_entry x r && nat_eq x.ttl r.ttl) ≡ false = sym (other_data x r (others 0 x (omega arith) (λ q. absurd (omega (arith, q))))) in
     ap (λ b. b || has_entry r xs) first ∙ entry_by r xs p (omega arith) (λ j e within other. others (suc j) e (omega arith) (λ q. other (omega (arith, q)))) d

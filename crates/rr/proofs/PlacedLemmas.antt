@@ -15,6 +15,8 @@ use Rattle.rr.specs.declared.record.Record.{Record}
 use Rattle.std.proofs.Common.{ap, append_assoc, arith, drop, get_or, inl, inr, refl, subst, sym, take, ◌∙◌, ◌⊎◌}
 use Rattle.std.proofs.lemmas.Bool.{cond-false, cond-true, false_from_ne_true}
 use Rattle.std.proofs.lemmas.List.{append-nil, take-append-drop, take_more}
+use Rattle.std.proofs.lemmas.Option.{same_Some}
+use Rattle.std.proofs.Math.Bool.{or-false, or-true}
 use Rattle.std.specs.Cmp.{Equal-is}
 use Rattle.std.specs.List.{AllByRecursion, IsDistinct, list_any, slice_get}
 use Rattle.std.specs.Ordering.{eq_by_cmp, on}
@@ -47,9 +49,6 @@ push_at (x ∷ xs) w o (suc i) h = more (push_at xs w o i h) where
   more (inl e) = inl e
   more (inr e) = inr (ap suc e.0, e.1)
 
-some_same : {X : Type 0} (x y : X) → Some x ≡ Some y → x ≡ y
-some_same x y e = cc
-
 none_some : {X : Type 0} (x : X) → None ≡ Some x → ⊥
 none_some x e = absurd cc
 
@@ -67,21 +66,13 @@ none_present test (Some x ∷ ps) h = λ k. h 0 x refl k || none_present test ps
 nowhere_any : (r : Record RData) (ps : Places) → IsNowhere r.rdata ps → list_any (has_data_of r) (present ps) ≡ false
 nowhere_any r ps h = none_present (has_data_of r) ps h.others
 
-or_false : (b : Bool) → (b || false) ≡ b
-or_false true = refl
-or_false false = refl
-
-or_true : (b : Bool) → (b || true) ≡ true
-or_true true = refl
-or_true false = refl
-
 any_one : (r : Record RData) (xs : List (Record RData)) → list_any (has_data_of_one (r ∷ [])) xs ≡ list_any (has_data_of r) xs
 any_one r [] = refl
-any_one r (x ∷ xs) = λ i. or_false (has_data_of r x) i || any_one r xs i
+any_one r (x ∷ xs) = λ i. or-false (has_data_of r x) i || any_one r xs i
 
 pub nowhere_one : (r : Record RData) (ps : Places) → ((i : ℕ) (x : Record RData) → slice_get ps i ≡ Some (Some x) → same_data x.rdata r.rdata ≡ false)
     → list_any (has_data_of_one (r ∷ [])) (present ps) ≡ false
-nowhere_one r ps h = none_present (has_data_of_one (r ∷ [])) ps (λ i x e. or_false (has_data_of r x) ∙ h i x e)
+nowhere_one r ps h = none_present (has_data_of_one (r ∷ [])) ps (λ i x e. or-false (has_data_of r x) ∙ h i x e)
 
 pub nowhere_left : (r : Record RData) (ps : Places) → IsNowhere r.rdata ps → present ps ≡ without (r ∷ []) (present ps)
 nowhere_left r ps h = sym (without_none (r ∷ []) (present ps) (nowhere_one r ps h.others))
@@ -111,7 +102,7 @@ any_here r k (Some x ∷ ps) zero h same =
     let is : x ≡ k = cc in
     ap (λ (y : Record RData). has_data_of r y || list_any (has_data_of r) (present ps)) is ∙ ap (λ b. b || list_any (has_data_of r) (present ps)) same
 any_here r k (None ∷ ps) (suc p) h same = any_here r k ps p h same
-any_here r k (Some x ∷ ps) (suc p) h same = ap (λ b. has_data_of r x || b) (any_here r k ps p h same) ∙ or_true (has_data_of r x)
+any_here r k (Some x ∷ ps) (suc p) h same = ap (λ b. has_data_of r x || b) (any_here r k ps p h same) ∙ or-true (has_data_of r x)
 
 only_any : (r : Record RData) (ps : Places) (p : ℕ) → IsOnlyIn r.rdata ps p → list_any (has_data_of r) (present ps) ≡ true
 only_any r ps p h = any_here r h.known ps p h.here h.same
@@ -201,7 +192,7 @@ module _ (find : RData → Option ℕ) (ps : Places) (d : RData) (h : IsPlaceInd
 
   module _ (p : ℕ) (found : Some p ≡ find d) where
     there : (i : ℕ) (r : Record RData) → slice_get ps i ≡ Some (Some r) → same_data r.rdata d ≡ true → p ≡ i
-    there i r e same = some_same p i (found ∙ h.at i r d e fits same)
+    there i r e same = same_Some p i (found ∙ h.at i r d e fits same)
 
     not_there : ((r : Record RData) → slice_get ps p ≡ Some (Some r) → same_data r.rdata d ≡ false) → IsNowhere d ps
     not_there other = record {
@@ -213,10 +204,10 @@ module _ (find : RData → Option ℕ) (ps : Places) (d : RData) (h : IsPlaceInd
     past_there none = not_there (λ r e. absurd (none_some _ (sym none ∙ e)))
 
     pub empty_there : slice_get ps p ≡ Some None → IsNowhere d ps
-    empty_there none = not_there (λ r e. absurd (none_some r (some_same _ _ (sym none ∙ e))))
+    empty_there none = not_there (λ r e. absurd (none_some r (same_Some _ _ (sym none ∙ e))))
 
     pub other_there : (r : Record RData) → slice_get ps p ≡ Some (Some r) → same_data r.rdata d ≡ false → IsNowhere d ps
-    other_there r here other = not_there (λ x e. ap (λ (y : Record RData). same_data y.rdata d) (some_same x r (some_same _ _ (sym e ∙ here))) ∙ other)
+    other_there r here other = not_there (λ x e. ap (λ (y : Record RData). same_data y.rdata d) (same_Some x r (same_Some _ _ (sym e ∙ here))) ∙ other)
 
     pub found_there : (r : Record RData) → slice_get ps p ≡ Some (Some r) → same_data r.rdata d ≡ true → IsOnlyIn d ps p
     found_there r here same = record {
@@ -233,8 +224,8 @@ index_here find ps p r h only = record { at = at } where
   at : (i : ℕ) (x : Record RData) (d : RData) → slice_get (set ps p (Some r)) i ≡ Some (Some x) → FitsTypes d → same_data x.rdata d ≡ true → find d ≡ Some i
   at i x d e fits same = elim (cases_eq i p) [
     | inl at_p ↦
-        let is : Some r ≡ Some x = some_same _ _ (sym (set_here ps p (Some only.known) (Some r) only.here) ∙ ap (slice_get (set ps p (Some r))) (sym at_p) ∙ e) in
-        let with_r : same_data r.rdata d ≡ true = ap (λ (y : Record RData). same_data y.rdata d) (some_same r x is) ∙ same in
+        let is : Some r ≡ Some x = same_Some _ _ (sym (set_here ps p (Some only.known) (Some r) only.here) ∙ ap (slice_get (set ps p (Some r))) (sym at_p) ∙ e) in
+        let with_r : same_data r.rdata d ≡ true = ap (λ (y : Record RData). same_data y.rdata d) (same_Some r x is) ∙ same in
         h.at p only.known d only.here fits (data_laws.congr only.known.rdata r.rdata d only.same ∙ with_r) ∙ ap Some (sym at_p)
     | inr other ↦ h.at i x d (sym (set_other ps p i (Some r) other) ∙ e) fits same
   ]
@@ -244,7 +235,7 @@ index_taken find ps p r h only = record { at = at } where
   at : (i : ℕ) (x : Record RData) (d : RData) → slice_get (set ps p None) i ≡ Some (Some x) → FitsTypes d → same_data x.rdata d ≡ true → find d ≡ Some i
   at i x d e fits same = elim (cases_eq i p) [
     | inl at_p ↦
-        let is : None ≡ Some x = some_same _ _ (sym (set_here ps p (Some only.known) None only.here) ∙ ap (slice_get (set ps p None)) (sym at_p) ∙ e) in
+        let is : None ≡ Some x = same_Some _ _ (sym (set_here ps p (Some only.known) None only.here) ∙ ap (slice_get (set ps p None)) (sym at_p) ∙ e) in
         absurd (none_some x is)
     | inr other ↦ h.at i x d (sym (set_other ps p i None other) ∙ e) fits same
   ]
@@ -275,7 +266,7 @@ module _ (find after : RData → Option ℕ) (ps : Places) (r : Record RData) (h
     at i x d e fits same = elim (push_at ps (Some r) (Some x) i e) [
       | inl before ↦ index_ahead.at i x d before fits same
       | inr last ↦
-          let with_r : same_data r.rdata d ≡ true = ap (λ (y : Record RData). same_data y.rdata d) (some_same r x last.1) ∙ same in
+          let with_r : same_data r.rdata d ≡ true = ap (λ (y : Record RData). same_data y.rdata d) (same_Some r x last.1) ∙ same in
           updated d ∙ cond-true _ _ _ (tied r.rdata d own fits with_r) ∙ ap Some (sym last.0)
     ]
 

@@ -15,6 +15,7 @@ use Rattle.base.specs.declared.record_type.RecordType.{RecordType}
 use Rattle.base.specs.declared.record_type.RecordType.TheVariants as types
 use Rattle.std.proofs.Common.{⊎_elim}
 use Rattle.std.proofs.lemmas.Bool.{or_cases}
+use Rattle.std.proofs.Math.Bool.{or-true}
 use Rattle.rr.specs.declared.record.Record.{Record}
 use Rattle.rr.specs.RecordSet.{IsTidy, SetValue, is_ns, is_soa, same_entry, same_entry-equiv}
 use Rattle.rr.specs.SetChanges.{beside, has_data_of, has_entry, insert, is_kept, is_later, is_left, joined, own_record, remove, replaced}
@@ -53,16 +54,12 @@ pub false_keeps : (set : SetValue) (r : Record RData) (serial : ℕ) → (insert
 false_keeps set r serial = stays_so set (record set { records = joined r (beside set.record_type set.records); ttl = r.ttl; serial = serial }) (is_left set.record_type set.records r)
 
 -- after one that answers true the record is there
-either : (b : Bool) → (b || true) ≡ true
-either true = refl
-either false = refl
-
 its_own : (r : Record RData) → (same_entry r r && nat_eq r.ttl r.ttl) ≡ true
 its_own r = λ i. same_entry-equiv.refl r i && nat_eq_equiv.refl r.ttl i
 
 held_at : (r x : Record RData) (ys : List (Record RData)) (b c : Bool) → (b || c) ≡ true → (c ≡ true → has_entry r ys ≡ true) → has_entry r ((if b then r else x) ∷ ys) ≡ true
 held_at r x ys true c h go = ap (λ b. b || has_entry r ys) (its_own r)
-held_at r x ys false c h go = ap (λ b. (same_entry x r && nat_eq x.ttl r.ttl) || b) (go h) ∙ either (same_entry x r && nat_eq x.ttl r.ttl)
+held_at r x ys false c h go = ap (λ b. (same_entry x r && nat_eq x.ttl r.ttl) || b) (go h) ∙ or-true (same_entry x r && nat_eq x.ttl r.ttl)
 
 held_replaced : (r : Record RData) (xs : List (Record RData)) → list_any (has_data_of r) xs ≡ true → has_entry r (replaced r xs) ≡ true
 held_replaced r [] h = cc
@@ -70,7 +67,7 @@ held_replaced r (x ∷ xs) h = held_at r x (replaced r xs) (has_data_of r x) (li
 
 held_pushed : (r : Record RData) (xs : List (Record RData)) → has_entry r (xs ++ r ∷ []) ≡ true
 held_pushed r [] = ap (λ b. b || false) (its_own r)
-held_pushed r (x ∷ xs) = ap (λ b. (same_entry x r && nat_eq x.ttl r.ttl) || b) (held_pushed r xs) ∙ either (same_entry x r && nat_eq x.ttl r.ttl)
+held_pushed r (x ∷ xs) = ap (λ b. (same_entry x r && nat_eq x.ttl r.ttl) || b) (held_pushed r xs) ∙ or-true (same_entry x r && nat_eq x.ttl r.ttl)
 
 held_by : (r : Record RData) (xs : List (Record RData)) (b : Bool) → list_any (has_data_of r) xs ≡ b → has_entry r (replaced r xs ++ (if b then [] else r ∷ [])) ≡ true
 held_by r xs true any = subst (λ ys. has_entry r ys ≡ true) (sym (append-nil (replaced r xs))) (held_replaced r xs any)

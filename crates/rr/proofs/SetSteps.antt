@@ -7,6 +7,7 @@ use Rattle.rr.specs.declared.record.Record.{Record}
 use Rattle.std.proofs.lemmas.Bool.Decides.{nat_tests}
 use Rattle.std.proofs.lemmas.Bool.{cond-true, cond-false, or_parts}
 use Rattle.std.proofs.lemmas.List.{append-nil, drop_all, length-set, take_all}
+use Rattle.std.proofs.Math.Bool.{or-false, or-true}
 use Rattle.base.specs.NameOrder.{folded, same_name}
 use Rattle.base.specs.NameOrderLaws.{same_by-equiv}
 use Rattle.base_data.specs.Kinds.{type_of_data}
@@ -71,14 +72,6 @@ one_more i = omega arith
 pub same_clone : (a b : Record RData) → (b.rdata ≡ a.rdata) × (b ≡ record a { rdata = b.rdata }) → b ≡ a
 same_clone a b h = h.1 ∙ ap (λ (d : RData). record a { rdata = d }) h.0
 
-either : (b : Bool) → (b || true) ≡ true
-either true = refl
-either false = refl
-
-or_nothing : (b : Bool) → (b || false) ≡ b
-or_nothing true = refl
-or_nothing false = refl
-
 -- a place of which nothing was replaced yet
 past : (r : Record RData) (xs : List (Record RData)) (i : ℕ) (d : Record RData) → i < length xs → get_or (replaced r (take i xs) ++ drop i xs) i d ≡ get_or xs i d
 past r [] i d h = absurd (omega arith)
@@ -114,7 +107,7 @@ any_at false c x = refl
 any_next : (r : Record RData) (xs : List (Record RData)) (i : ℕ) (d : Record RData) → i < length xs
     → list_any (has_data_of r) (take (suc i) xs) ≡ (list_any (has_data_of r) (take i xs) || has_data_of r (get_or xs i d))
 any_next r [] i d h = absurd (omega arith)
-any_next r (x ∷ xs) zero d h = or_nothing (has_data_of r x)
+any_next r (x ∷ xs) zero d h = or-false (has_data_of r x)
 any_next r (x ∷ xs) (suc i) d h = ap (λ b. has_data_of r x || b) (any_next r xs i d (omega arith)) ∙ any_at (has_data_of r x) _ _
 
 any_upto : (r d : Record RData) (xs : List (Record RData)) (i : ℕ) (b : Bool) → i < length xs → d ≡ get_or xs i d
@@ -132,13 +125,13 @@ not_empty (q ∷ ps) p = no_zero (length (ps ++ p ∷ []))
 -- a place with the same data was found
 pub any_found : (r d : Record RData) (xs : List (Record RData)) (ps : List (ℕ × Record RData)) (p : ℕ × Record RData) (i : ℕ) → i < length xs → d ≡ get_or xs i d → same_data d.rdata r.rdata ≡ true
     → (length (ps ++ p ∷ []) == 0) ≡ not (list_any (has_data_of r) (take (i + 1) xs))
-any_found r d xs ps p i h read t = not_empty ps p ∙ sym (ap not (any_upto r d xs i true h read t ∙ either (list_any (has_data_of r) (take i xs))))
+any_found r d xs ps p i h read t = not_empty ps p ∙ sym (ap not (any_upto r d xs i true h read t ∙ or-true (list_any (has_data_of r) (take i xs))))
 
 -- there is none at this place
 pub any_passed : (r d : Record RData) (xs : List (Record RData)) (b : Bool) (i : ℕ) → i < length xs
     → b ≡ not (list_any (has_data_of r) (take i xs)) → d ≡ get_or xs i d → same_data d.rdata r.rdata ≡ false
     → b ≡ not (list_any (has_data_of r) (take (i + 1) xs))
-any_passed r d xs b i h e read t = e ∙ sym (ap not (any_upto r d xs i false h read t ∙ or_nothing (list_any (has_data_of r) (take i xs))))
+any_passed r d xs b i h e read t = e ∙ sym (ap not (any_upto r d xs i false h read t ∙ or-false (list_any (has_data_of r) (take i xs))))
 
 pub within_push : (n : ℕ) (ps : List (ℕ × Record RData)) (p : ℕ × Record RData)
     → AllByRecursion (λ (q : ℕ × Record RData). q.0 < n) ps → p.0 < n → AllByRecursion (λ (q : ℕ × Record RData). q.0 < n) (ps ++ p ∷ [])

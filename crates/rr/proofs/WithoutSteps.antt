@@ -8,6 +8,7 @@ use Rattle.rr.specs.SortedData.{IsSortedDataOf}
 use Rattle.rr.specs.declared.record.Record.{Record}
 use Rattle.std.proofs.Common.{ap, arith, get_or, refl, sym, ◌∙◌}
 use Rattle.std.proofs.lemmas.Bool.{cond-false, or_parts}
+use Rattle.std.proofs.Math.Bool.{or-false}
 use Rattle.std.specs.Borrow.{Bor}
 use Rattle.std.specs.List.{filter, list_any}
 use Rattle.std.specs.Prelude.{Bool, List, [], cond, false, length, not, true, ◌<◌, ◌∷◌, ◌||◌, ◌≡◌, ◌≢◌, ◌≤◌}
@@ -17,12 +18,8 @@ without_same : (rs : List (Record RData)) (p : Record RData → Bool) → ((x : 
 without_same rs p same [] = refl
 without_same rs p same (x ∷ xs) = λ i. cond (same x i) (x ∷ without_same rs p same xs i) (without_same rs p same xs i)
 
-or_false : (b : Bool) → (b || false) ≡ b
-or_false true = refl
-or_false false = refl
-
 without_first : (r : Record RData) (xs : List (Record RData)) → filter (λ x. not (has_data_of r x)) xs ≡ without (r ∷ []) xs
-without_first r xs = without_same (r ∷ []) (λ x. not (has_data_of r x)) (λ x. ap not (sym (or_false (has_data_of r x)))) xs
+without_first r xs = without_same (r ∷ []) (λ x. not (has_data_of r x)) (λ x. ap not (sym (or-false (has_data_of r x)))) xs
 
 -- of one record alone
 pub without_only : (r : Record RData) (rs xs : List (Record RData)) → r ≡ get_or rs 0 r → 1 ≤ length rs → length rs < 2

@@ -7,8 +7,6 @@ use Rattle.base.specs.Faults.{IsFaulty}
 use Rattle.base.specs.Labels.{NameValue, plain_len}
 use Rattle.base.specs.NameText.{name_text}
 use Rattle.base.specs.Names.{name_at}
-use Rattle.base.specs.Tracks.{Tracked}
-use Rattle.base.specs.Reader.{Reader}
 use Rattle.base.specs.Reading.{Read, ◌>>=◌, place_after, number_at}
 use Rattle.base.specs.RecordType.{type_number, type_of, type_text}
 use Rattle.base.specs.Spelling.{IsNameAt}
@@ -182,12 +180,6 @@ record_at bytes i = do
   type ← number_at w16 bytes owner.1
   if is_opt_type (type_of type.0) && not (length owner.0.labels == 0)
       then Err (faults.EdnsNameNotRoot owner.0) else body_at owner.0 (type_of type.0) bytes type.1
-
--- the owner of a record was read, and its pointers' targets are kept
-pub record HasOwner (before after : Reader) (owner : NameValue) : Type 0 where
-  pub read : name_at before.bytes before.index ≡ Ok (owner, after.index)
-  pub bytes : after.bytes ≡ before.bytes
-  pub tracks : Tracked (before.index ∷ []) before after
 
 -- the names of a record: its owner's, and those of its data from the left
 abbrev pub record_names : Record RData → List NameValue

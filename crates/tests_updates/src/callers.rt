@@ -13,6 +13,7 @@ use std::alloc::Global;
 use std::net::Ipv4Addr;
 use std::test::Fail;
 use test_tools::bytes::decode;
+use zones::sets;
 
 /// The answer to `www.example.com A`.
 fn answers(alloc: Global) -> Result<Vec<Record>, Fail> {
@@ -146,6 +147,15 @@ fn a_set_is_created_once(rt: HostRuntime) -> Result<(), Fail> {
     Ok(())
 }
 
+/// How many sets the text of a zone named `example.` has, or the number of its refusal.
+fn counted(alloc: Global, text: &str) -> Result<Result<usize, u8>, Fail> {
+    let origin = name(alloc, "example.")?;
+    match sets(alloc, Some(origin), text) {
+        Ok(count) => Ok(Ok(count)),
+        Err(e) => Ok(Err(e.number())),
+    }
+}
+
 #[test]
 fn sets_are_counted(rt: HostRuntime) -> Result<(), Fail> {
     for &(text, wanted) in &[
@@ -156,6 +166,7 @@ fn sets_are_counted(rt: HostRuntime) -> Result<(), Fail> {
     ] {
         let origin = name(rt.alloc(), "example.")?;
         assert!(rt; check(rt.alloc(), Some(origin), text) == wanted, "{text}");
+        assert!(rt; counted(rt.alloc(), text)? == wanted, "{text}");
     }
     Ok(())
 }

@@ -4,7 +4,7 @@ ghost use Rattle.std.specs.Prelude.{◌≡◌, ◌<◌, [], true};
 ghost use Rattle.base.specs.Reading.{Reads, bytes_at};
 ghost use Rattle.base.specs.Tracks.{Tracks};
 ghost use Rattle.base_data.specs.Kinds.{as_any, data_places};
-ghost use Rattle.base_data.specs.InPlace.{ReadsInto, data_fault, reason_of, told};
+ghost use Rattle.base_data.specs.InPlace.{ReadsInto, data_fault, reason_of};
 ghost use Rattle.base_data.specs.RData.{is_empty_data, rdata_at};
 ghost use Rattle.base_data.specs.declared.rdata.RData.TheVariants as kinds;
 
@@ -21,6 +21,7 @@ impl RData {
     ///
     /// `BadData` where the bytes are no data of the type, where the data doesn't fill its length exactly, and for data
     /// of type 0 that has a byte; `Memory` if memory runs out.
+    #[tactic(auto, unfolding(crate::specs::RData::rdata_at))]
     pub fn read(
         decoder: &mut BinDecoder<'_>,
         record_type: RecordType,
@@ -33,41 +34,17 @@ impl RData {
             decoder.new result }
     {
         let mut rdata = RData::Update0(record_type);
-        match rdata.read_in_place(decoder, record_type, len) {
-            Ok(()) => Ok(rdata),
-            Err(reason) => Err(reason.fault(record_type)),
-        }
-    }
-
-    /// Reads data as `read` does, but in the place of empty data, since it is faster not to move what was read.
-    ///
-    /// # Errors
-    ///
-    /// What `read` refuses, told by a smaller type.
-    #[tactic(auto, unfolding(crate::specs::RData::rdata_at))]
-    pub fn read_in_place(
-        &mut self,
-        decoder: &mut BinDecoder<'_>,
-        record_type: RecordType,
-        len: u16,
-    ) -> Result<(), DataError>
-        requires empty { is_empty_data self.old ≡ true }
-        ensures read { Reads (λ _. self.new) decoder.old decoder.new (told record_type result)
-            (rdata_at record_type len decoder.old.bytes decoder.old.index) }
-        // As of every read, see `BinDecodable::read`: of the names of the data.
-        ensures tracks { Tracks (λ _. data_places self.new decoder.old.bytes decoder.old.index)
-            decoder.old decoder.new result }
-    {
-        let end = decoder.index() + usize::from(len);
         if len == 0 {
-            *self = RData::Update0(record_type);
-            return Ok(());
+            return Ok(rdata);
         }
-        self.read_kind(decoder, record_type, len)?;
+        let end = decoder.index() + usize::from(len);
+        if let Err(reason) = rdata.read_kind(decoder, record_type, len) {
+            return Err(reason.fault(record_type));
+        }
         if decoder.index() == end {
-            Ok(())
+            Ok(rdata)
         } else {
-            Err(DataError::BadData)
+            Err(DecodeError::BadData(record_type))
         }
     }
 
@@ -83,7 +60,7 @@ impl RData {
 
 /// Why data wasn't read. It is small, since a refusal takes room in each call that might give it.
 #[derive(Clone, Copy, Drop)]
-pub enum DataError {
+pub(crate) enum DataError {
     /// Memory ran out.
     Memory,
     /// The bytes are no data of the type, or the data doesn't fill its length exactly.
@@ -92,7 +69,7 @@ pub enum DataError {
 
 impl DataError {
     /// The fault of data of a type.
-    pub fn fault(self, record_type: RecordType) -> DecodeError
+    fn fault(self, record_type: RecordType) -> DecodeError
         ensures { result ≡ data_fault record_type self }
     {
         match self {

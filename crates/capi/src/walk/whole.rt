@@ -204,11 +204,10 @@ fn record(decoder: &mut BinDecoder<'_>, bytes: &[u8], section: Section) -> Resul
         (record_stop section decoder.old.bytes decoder.old.index) }
 {
     let place = decoder.index();
-    let mut record = Record::update0(Name::read(decoder)?, 0, RecordType::ZERO);
-    let fields_place = decoder.index();
-    record.read_after_owner(decoder)?;
+    let mut record = Record::update0(Name::root(decoder.allocator()), 0, RecordType::ZERO);
+    let type_place = record.read_in_place(decoder)?;
     let mut fields = BinDecoder::new(decoder.allocator(), bytes);
-    let _before = fields.read_slice(fields_place)?;
+    let _before = fields.read_slice(type_place)?;
     let found = read_fields(&mut fields, place)?;
     let Record { name, .. } = record;
     Ok(Stop {

@@ -1,14 +1,13 @@
 //! Reads records.
 
-ghost use Rattle.std.specs.Prelude.{◌≡◌, ◌+◌, ◌<◌, length, IfErr, IfOk, OnOk, [], true};
+ghost use Rattle.std.specs.Prelude.{◌≡◌, ◌+◌, ◌<◌, length, IfErr, IfOk, Ok, OnOk, []};
 ghost use Rattle.std.specs.Int.{w16, w32};
-ghost use Rattle.base.specs.Reader.{Reader};
+ghost use Rattle.base.specs.Names.{name_at};
 ghost use Rattle.base.specs.Reading.{Reads};
 ghost use Rattle.base.specs.Tracks.{Tracks};
 ghost use Rattle.base.specs.Words.{IsNumberAt};
-ghost use Rattle.base_data.specs.Kinds.{data_places, type_of_data};
-ghost use Rattle.base_data.specs.RData.{is_empty_data};
-ghost use Rattle.rr.specs.Record.{HasOwner, body_at, class_value, flush_value, is_opt_type, record_at, record_places};
+ghost use Rattle.base_data.specs.Kinds.{data_places};
+ghost use Rattle.rr.specs.Record.{body_at, class_value, flush_value, is_opt_type, record_at, record_places};
 
 use crate::record::Record;
 use base::{BinDecodable, BinDecoder, DNSClass, DecodeError, Name, RecordType};
@@ -30,54 +29,50 @@ impl BinDecodable for Record<RData> {
     /// `IncorrectRDataLengthRead` where fewer bytes are left than the length says; `BadData` for data that its type
     /// doesn't read. `Memory` if memory runs out.
     fn read(decoder: &mut BinDecoder<'_>) -> Result<Record<RData>, DecodeError> {
-        let mut record = Record::update0(Name::read(decoder)?, 0, RecordType::ZERO);
-        record.read_after_owner(decoder)?;
+        let mut record = Record::update0(Name::root(decoder.allocator()), 0, RecordType::ZERO);
+        let _type_place = record.read_in_place(decoder)?;
         Ok(record)
     }
 }
 
 impl Record<RData> {
-    /// Reads what comes after the owner of a record, in the place of a record that has its owner and no data, since it
-    /// is faster not to move what was read. Answers its type.
+    /// Reads a record at the decoder's place as `read` does, but in the place of this one, since it is faster not to
+    /// move what was read. Answers the place after its owner, where its type stands.
     ///
     /// # Errors
     ///
-    /// What `read` refuses after the owner.
+    /// Those of `read`. What is left in the place then is no record of the message.
     #[tactic(auto, unfolding(crate::specs::Record::record_at))]
-    pub fn read_after_owner(
-        &mut self,
-        decoder: &mut BinDecoder<'_>,
-    ) -> Result<RecordType, DecodeError>
-        requires empty { is_empty_data self.old.rdata ≡ true }
-        // Where its owner was read before, both read a record together.
-        ensures read { (before : Reader) → HasOwner before decoder.old self.old.name
-            → Reads (λ _. self.new) before decoder.new result
-            (record_at before.bytes before.index) }
-        ensures type_is { IfOk result (λ record_type. type_of_data self.new.rdata ≡ record_type) }
-        // Both are as of every read, see `BinDecodable::read`: of the names of the record.
-        ensures tracks { (before : Reader) → HasOwner before decoder.old self.old.name
-            → Tracks (λ _. record_places before.bytes before.index) before decoder.new result }
+    pub fn read_in_place(&mut self, decoder: &mut BinDecoder<'_>) -> Result<usize, DecodeError>
+        ensures read { Reads (λ _. self.new) decoder.old decoder.new result
+            (record_at decoder.old.bytes decoder.old.index) }
+        ensures owner { IfOk result (λ type_place.
+            name_at decoder.old.bytes decoder.old.index ≡ Ok (self.new.name, type_place)) }
+        // As of every read, see `BinDecodable::read`: of the names of the record.
+        ensures tracks { Tracks (λ _. record_places decoder.old.bytes decoder.old.index)
+            decoder.old decoder.new result }
     {
+        self.name = Name::read(decoder)?;
+        let type_place = decoder.index();
         let record_type = RecordType::read(decoder)?;
         if is_opt(record_type) && !self.name.is_root() {
             let root = Name::root(decoder.allocator());
             return Err(DecodeError::EdnsNameNotRoot(mem::replace(&mut self.name, root)));
         }
         self.read_body(decoder, record_type)?;
-        Ok(record_type)
+        Ok(type_place)
     }
 
-    /// Reads what comes after the type of a record, which has its name and no data.
+    /// Reads what comes after the type of a record, which has its name.
     #[tactic(auto, unfolding(crate::specs::Record::body_at))]
     fn read_body(
         &mut self,
         decoder: &mut BinDecoder<'_>,
         record_type: RecordType,
     ) -> Result<(), DecodeError>
-        requires empty { is_empty_data self.old.rdata ≡ true }
         ensures read { Reads (λ _. self.new) decoder.old decoder.new result
             (body_at self.old.name record_type decoder.old.bytes decoder.old.index) }
-        ensures type_is { IfOk result (λ _. type_of_data self.new.rdata ≡ record_type) }
+        ensures owner { self.new.name ≡ self.old.name }
         // As of every read, see `BinDecodable::read`: of the names of the data.
         ensures tracks { Tracks
             (λ _. data_places self.new.rdata decoder.old.bytes (decoder.old.index + 8))
@@ -92,13 +87,11 @@ impl Record<RData> {
                 len: usize::from(len),
             });
         }
+        self.rdata = RData::read(decoder, record_type, len)?;
         self.dns_class = dns_class;
         self.ttl = ttl;
         self.mdns_cache_flush = mdns_cache_flush;
-        match self.rdata.read_in_place(decoder, record_type, len) {
-            Ok(()) => Ok(()),
-            Err(reason) => Err(reason.fault(record_type)),
-        }
+        Ok(())
     }
 }
 

@@ -85,9 +85,9 @@ fn read_each(
     }
     for _ in 0..count {
         // the record stays where it was read until it is among the others, since moving it is slow
-        let owner = Name::read(decoder)?;
-        let mut next = Record::update0(owner, 0, RecordType::ZERO);
-        let record_type = next.read_after_owner(decoder)?;
+        let mut next = Record::update0(Name::root(alloc), 0, RecordType::ZERO);
+        next.read_in_place(decoder)?;
+        let record_type = next.record_type();
         if let Some(fault) = fault_of(edns, signature, &next, record_type, is_additional, op_code) {
             return Err(fault);
         }

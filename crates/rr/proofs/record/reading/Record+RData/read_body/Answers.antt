@@ -1,13 +1,11 @@
 use Rattle.std.proofs.Common.{◌≡◌, ℕ, List, length, ◌-◌, ◌<◌, ◌+◌, ◌∙◌, Ok, Err, sym, arith}
 use Rattle.std.proofs.lemmas.Result.{err_from_is_err_and}
-use Rattle.base.proofs.TrackLemmas.{bounded_after, bounded_here, tracked_both}
+use Rattle.base.proofs.TrackLemmas.{bounded_here, tracked_both}
 use Rattle.base.specs.Tracks.{Tracked}
 use Rattle.base.specs.Reading.{Fails}
 use Rattle.base.specs.declared.error.decode_error.DecodeError.TheVariants.{IncorrectRDataLengthRead}
 use Rattle.base_data.specs.Kinds.{data_places}
-use Rattle.base_data.specs.InPlace.{data_fault}
 use Rattle.base_data.specs.RData.{rdata_at}
-use Rattle.base_data.proofs.DataRows.{data_says}
 use Rattle.rr.proofs.RecordFaults.{body_cut, body_long}
 use Rattle.rr.proofs.ReadSteps.{body_read, data_fails, over_both, placed, room}
 use Rattle.rr.proofs.record.reading.Record+RData.read_body.Goals as goal
@@ -38,44 +36,35 @@ returns-then-left-from-clause-read c =
 pub returns-then-left-from-clause-tracks : goal.returns-then-left-from-clause-tracks
 returns-then-left-from-clause-tracks c = bounded_here c.in_ok-class.ensures.tracks
 
-pub returns-in-Ok-clause-read : goal.returns-in-Ok-clause-read
-returns-in-Ok-clause-read c =
+pub returns-in_err-self-clause-read : goal.returns-in_err-self-clause-read
+returns-in_err-self-clause-read c =
+    let p = err_from_is_err_and c.from_residual-in_err-self.result c.from_residual-in_err-self.ensures.1 in
+    let at = c.args.decoder.now in
+    let owner = c.args.self.now.name in
+    let found = c.in_ok-class.ensures.found in
+    let after = c.in_ok-class.ensures.after in
+    let left = c.len-left.ensures.left ∙ placed after.1 after.0 (λ (B : List ℕ) (k : ℕ). length B - k) in
+    let fits = room owner c.args.record_type at.bytes at.index found.0 found.1 found.2 left c.from.ensures c.if-left-from.false in
+    let fault = c.in_err-self.field-0.0 in
+    rw (p.1, p.2) (data_fails owner c.args.record_type at.bytes at.index found.0 found.1 found.2 fits fault
+    (over_both after.1 after.0 (λ (B : List ℕ) (k : ℕ). Fails fault (rdata_at c.args.record_type c.in_ok-class.field-0.len B k)) c.in_err-self.ensures.read))
+
+pub returns-clause-read : goal.returns-clause-read
+returns-clause-read c =
     let at = c.args.decoder.now in
     let owner = c.args.self.now.name in
     let found = c.in_ok-class.ensures.found in
     let after = c.in_ok-class.ensures.after in
     let kind = c.class_of_field-dns_class in
-    let rdata = c.in-Ok.ensures.read in
+    let rdata = c.in_ok-self.ensures.read in
     let left = c.len-left.ensures.left ∙ placed after.1 after.0 (λ (B : List ℕ) (k : ℕ). length B - k) in
     let fits = room owner c.args.record_type at.bytes at.index found.0 found.1 found.2 left c.from.ensures c.if-left-from.false in
-    let rdata_is = over_both after.1 after.0 (λ (B : List ℕ) (k : ℕ). rdata_at c.args.record_type c.in_ok-class.field-0.len B k ≡ Ok (c.read_in_place.new.self, c.read_in_place.new.decoder.index)) rdata.0 in
+    let rdata_is = over_both after.1 after.0 (λ (B : List ℕ) (k : ℕ). rdata_at c.args.record_type c.in_ok-class.field-0.len B k ≡ Ok (c.in_ok-self.field-0, c.read.new.decoder.index)) rdata.0 in
     (body_read owner c.args.record_type at.bytes at.index found.0 found.1 found.2 fits rdata_is kind.ensures.class kind.ensures.flush, rdata.1 ∙ after.1)
 
-pub returns-in-Ok-clause-type_is : goal.returns-in-Ok-clause-type_is
-returns-in-Ok-clause-type_is c =
-    let begun = c.read_fields.new.decoder in
-    (data_says c.args.record_type c.in_ok-class.field-0.len begun.bytes begun.index (c.read_in_place.new.self, c.read_in_place.new.decoder.index) c.in-Ok.ensures.read.0).0.type_is
-
-pub returns-in-Err-clause-read : goal.returns-in-Err-clause-read
-returns-in-Err-clause-read c =
-    let at = c.args.decoder.now in
-    let owner = c.args.self.now.name in
-    let found = c.in_ok-class.ensures.found in
+pub returns-clause-tracks : goal.returns-clause-tracks
+returns-clause-tracks c =
     let after = c.in_ok-class.ensures.after in
-    let left = c.len-left.ensures.left ∙ placed after.1 after.0 (λ (B : List ℕ) (k : ℕ). length B - k) in
-    let fits = room owner c.args.record_type at.bytes at.index found.0 found.1 found.2 left c.from.ensures c.if-left-from.false in
-    let fault = data_fault c.args.record_type c.in-Err.reason in
-    rw c.fault.ensures (data_fails owner c.args.record_type at.bytes at.index found.0 found.1 found.2 fits fault
-    (over_both after.1 after.0 (λ (B : List ℕ) (k : ℕ). Fails fault (rdata_at c.args.record_type c.in_ok-class.field-0.len B k)) c.in-Err.ensures.read))
-
-pub returns-in-Ok-clause-tracks : goal.returns-in-Ok-clause-tracks
-returns-in-Ok-clause-tracks c =
-    let after = c.in_ok-class.ensures.after in
-    let new = c.read_in_place.new in
-    over_both after.1 after.0 (λ (B : List ℕ) (k : ℕ). Tracked (data_places new.self B k) c.args.decoder.now
-    new.decoder)
-    (tracked_both c.in_ok-class.ensures.tracks c.in-Ok.ensures.tracks)
-
-pub returns-in-Err-clause-tracks : goal.returns-in-Err-clause-tracks
-returns-in-Err-clause-tracks c =
-    bounded_after c.read_in_place.new.decoder c.in_ok-class.ensures.tracks c.in-Err.ensures.tracks
+    over_both after.1 after.0 (λ (B : List ℕ) (k : ℕ). Tracked (data_places c.in_ok-self.field-0 B k) c.args.decoder.now
+    c.read.new.decoder)
+    (tracked_both c.in_ok-class.ensures.tracks c.in_ok-self.ensures.tracks)
