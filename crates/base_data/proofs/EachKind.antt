@@ -24,7 +24,7 @@ use Rattle.base_data.proofs.SRVLemmas.{srv_inside, srv_is, srv_longer, tells_srv
 use Rattle.base_data.proofs.SameData.{IsSame, apart, as_bytes, as_name, flag_of, types_Decide}
 use Rattle.base_data.proofs.Tells.{fills_bytes, fills_from}
 use Rattle.base_data.proofs.TextWords.{fills_txt, some_strings}
-use Rattle.base_data.specs.Kinds.{DataWord, FitsTypes, IsReadable, as_any, data_names, data_places, is_carried, kind_at, type_of_data}
+use Rattle.base_data.specs.Kinds.{DataWord, IsReadable, KeptData, as_any, data_names, data_places, is_carried, kind_at, type_of_data}
 use Rattle.base_data.specs.OPT.{options_wire}
 use Rattle.base_data.specs.RData.{filling, is_signature_data, signature_in}
 use Rattle.base_data.specs.contracts.rdata.RDataPartialEq.TheImpl.{ghosts as equality}
@@ -152,7 +152,7 @@ signature_is _ is = cc
 -- ---- the order
 
 -- all that the order looks at is the same exactly of equal data
-pub same_data : (a b : RData) → FitsTypes a → FitsTypes b → IsSame a b ↔ IsTrue (equality.eq a b)
+pub same_data : (a b : RData) → KeptData a → KeptData b → IsSame a b ↔ IsTrue (equality.eq a b)
 same_data (kinds.A x) (kinds.A y) p q = as_bytes (kinds.A x) (kinds.A y) refl refl refl (bytes_decides x.octets y.octets)
 same_data (kinds.AAAA x) (kinds.AAAA y) p q = as_bytes (kinds.AAAA x) (kinds.AAAA y) refl refl refl (bytes_decides x.octets y.octets)
 same_data (kinds.NS x) (kinds.NS y) p q = as_name (kinds.NS x) (kinds.NS y) x.name y.name refl refl (λ e. e) (λ e. e) (flag_of 0 _ _) (λ e i. e i ∷ [])

@@ -8,7 +8,7 @@ use Rattle.base_data.proofs.FieldLemmas.{both, is_number, number_is, word_same}
 use Rattle.base_data.proofs.NameWords.{here_name, name_here, name_inside, name_longer, name_same, octets_same, same_name-from}
 use Rattle.base_data.proofs.SameData.{IsSame, flag_of}
 use Rattle.base_data.proofs.Tells.{Tells, tells_name, tells_number, tells_ok, tells_same, tells_then}
-use Rattle.base_data.specs.Kinds.{FitsTypes}
+use Rattle.base_data.specs.Kinds.{KeptData}
 use Rattle.base_data.specs.MX.{MXWord, mx_at}
 use Rattle.base_data.specs.contracts.rdata.RDataPartialEq.TheImpl.{ghosts as equality}
 use Rattle.base_data.specs.contracts.rdata.mx.MXPartialEq.TheImpl.{ghosts as mx_equality}
@@ -41,7 +41,7 @@ mx_same a b = (
 )
 
 -- the order ties exactly what is equal
-pub mx_is : (x y : MX) → FitsTypes (kinds.MX x) → FitsTypes (kinds.MX y) → IsSame (kinds.MX x) (kinds.MX y) ↔ IsTrue (equality.eq (kinds.MX x) (kinds.MX y))
+pub mx_is : (x y : MX) → KeptData (kinds.MX x) → KeptData (kinds.MX y) → IsSame (kinds.MX x) (kinds.MX y) ↔ IsTrue (equality.eq (kinds.MX x) (kinds.MX y))
 mx_is x y p q = (there, back) where
   there : IsSame (kinds.MX x) (kinds.MX y) → IsTrue (equality.eq (kinds.MX x) (kinds.MX y))
   there s =

@@ -11,7 +11,7 @@ use Rattle.base_data.proofs.FieldLemmas.{both, is_number, long_same, number_is, 
 use Rattle.base_data.proofs.NameWords.{here_name, name_here, name_longer, name_same, same_name-from}
 use Rattle.base_data.proofs.SameData.{IsSame, flag_of}
 use Rattle.base_data.proofs.Tells.{Tells, tells_name, tells_number, tells_ok, tells_same, tells_then}
-use Rattle.base_data.specs.Kinds.{FitsTypes}
+use Rattle.base_data.specs.Kinds.{KeptData}
 use Rattle.base_data.specs.NameData.{name_octets}
 use Rattle.base_data.specs.SOA.{SOAWord, soa_at}
 use Rattle.base_data.specs.contracts.rdata.RDataPartialEq.TheImpl.{ghosts as equality}
@@ -127,22 +127,22 @@ joined m r a b c d e =
     ∙ append_assoc (m ++ r) (a ++ b ++ c ++ d) e ∙ append_assoc m r (a ++ b ++ c ++ d ++ e)
 
 -- the order ties exactly what is equal
-pub soa_is : (x y : SOA) → FitsTypes (kinds.SOA x) → FitsTypes (kinds.SOA y) → IsSame (kinds.SOA x) (kinds.SOA y) ↔ IsTrue (equality.eq (kinds.SOA x) (kinds.SOA y))
+pub soa_is : (x y : SOA) → KeptData (kinds.SOA x) → KeptData (kinds.SOA y) → IsSame (kinds.SOA x) (kinds.SOA y) ↔ IsTrue (equality.eq (kinds.SOA x) (kinds.SOA y))
 soa_is x y p q = (there, back) where
   there : IsSame (kinds.SOA x) (kinds.SOA y) → IsTrue (equality.eq (kinds.SOA x) (kinds.SOA y))
   there s =
       let apart = sym (joined (name_octets x.mname) (name_octets x.rname) _ _ _ _ _) ∙ s.bytes ∙ joined (name_octets y.mname) (name_octets y.rname) _ _ _ _ _ in
-      let first = name_first x.mname y.mname _ _ p.0 q.0 apart in
-      let second = name_first x.rname y.rname _ _ p.1 q.1 first.1 in
+      let first = name_first x.mname y.mname _ _ p.0.0 q.0.0 apart in
+      let second = name_first x.rname y.rname _ _ p.1.0.0 q.1.0.0 first.1 in
       let digits = second.1 in
       (soa_same x y).1 (
         same_name-from x.mname y.mname first.0 (flag_of 0 _ _ s.flags),
         same_name-from x.rname y.rname second.0 (flag_of 1 _ _ s.flags),
-        long_same x.serial y.serial p.2.serial q.2.serial (ap (take 4) digits),
-        long_same x.refresh y.refresh p.2.refresh q.2.refresh (ap (λ (l : List ℕ). take 4 (drop 4 l)) digits),
-        long_same x.retry y.retry p.2.retry q.2.retry (ap (λ (l : List ℕ). take 4 (drop 8 l)) digits),
-        long_same x.expire y.expire p.2.expire q.2.expire (ap (λ (l : List ℕ). take 4 (drop 12 l)) digits),
-        long_same x.minimum y.minimum p.2.minimum q.2.minimum (ap (λ (l : List ℕ). take 4 (drop 16 l)) digits),
+        long_same x.serial y.serial p.1.1.serial q.1.1.serial (ap (take 4) digits),
+        long_same x.refresh y.refresh p.1.1.refresh q.1.1.refresh (ap (λ (l : List ℕ). take 4 (drop 4 l)) digits),
+        long_same x.retry y.retry p.1.1.retry q.1.1.retry (ap (λ (l : List ℕ). take 4 (drop 8 l)) digits),
+        long_same x.expire y.expire p.1.1.expire q.1.1.expire (ap (λ (l : List ℕ). take 4 (drop 12 l)) digits),
+        long_same x.minimum y.minimum p.1.1.minimum q.1.1.minimum (ap (λ (l : List ℕ). take 4 (drop 16 l)) digits),
       )
 
   back : IsTrue (equality.eq (kinds.SOA x) (kinds.SOA y)) → IsSame (kinds.SOA x) (kinds.SOA y)

@@ -8,7 +8,7 @@ use Rattle.base_data.proofs.FieldLemmas.{both, is_number, number_is, word_same}
 use Rattle.base_data.proofs.NameWords.{here_name, name_here, name_inside, name_longer, name_same, octets_same, same_name-from}
 use Rattle.base_data.proofs.SameData.{IsSame, flag_of}
 use Rattle.base_data.proofs.Tells.{Tells, tells_name, tells_number, tells_ok, tells_same, tells_then}
-use Rattle.base_data.specs.Kinds.{FitsTypes}
+use Rattle.base_data.specs.Kinds.{KeptData}
 use Rattle.base_data.specs.SRV.{SRVWord, srv_at}
 use Rattle.base_data.specs.contracts.rdata.RDataPartialEq.TheImpl.{ghosts as equality}
 use Rattle.base_data.specs.contracts.rdata.srv.SRVPartialEq.TheImpl.{ghosts as srv_equality}
@@ -50,7 +50,7 @@ srv_same a b = (
 )
 
 -- the order ties exactly what is equal
-pub srv_is : (x y : SRV) → FitsTypes (kinds.SRV x) → FitsTypes (kinds.SRV y) → IsSame (kinds.SRV x) (kinds.SRV y) ↔ IsTrue (equality.eq (kinds.SRV x) (kinds.SRV y))
+pub srv_is : (x y : SRV) → KeptData (kinds.SRV x) → KeptData (kinds.SRV y) → IsSame (kinds.SRV x) (kinds.SRV y) ↔ IsTrue (equality.eq (kinds.SRV x) (kinds.SRV y))
 srv_is x y p q = (there, back) where
   there : IsSame (kinds.SRV x) (kinds.SRV y) → IsTrue (equality.eq (kinds.SRV x) (kinds.SRV y))
   there s =

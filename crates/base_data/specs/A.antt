@@ -31,7 +31,6 @@ a_kind x = record {
   canonical = x.octets;
   held = [];
   places = no_places;
-  fits = Unit {0};
   items = Some (ipv4_text x.octets ∷ []);
   shown = bare;
   spelled = AreOctets 4 x.octets;

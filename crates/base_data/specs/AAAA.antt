@@ -47,7 +47,6 @@ aaaa_kind x = record {
   canonical = x.octets;
   held = [];
   places = no_places;
-  fits = Unit {0};
   items = Some (aaaa_text x.octets ∷ []);
   shown = bare;
   spelled = AreOctets 16 x.octets;

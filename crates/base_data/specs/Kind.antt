@@ -13,7 +13,8 @@ pub record Kind : Type 1 where
   pub plain : ℕ
   -- what is written of it, its names with compression (RFC 1035, 4.1.4) or without it (RFC 3597, 4)
   pub written : Writing
-  -- what its type keeps of it: numbers have their widths, and names have at most 255 bytes
+  -- what its type keeps of it: numbers have their widths, names have labels of 1 to 63 bytes and at most 255 bytes,
+  -- and options at most 65,535
   pub kept : Type 0
   -- where that stands, the word stands
   pub says : Says written kept word plain []
@@ -27,8 +28,6 @@ pub record Kind : Type 1 where
   pub held : List NameValue
   -- the places of these, where it begins at a place of a buffer
   pub places : List ℕ → ℕ → List ℕ
-  -- whether its fields are such as the program's types hold
-  pub fits : Type 0
   -- the items of its text, a string without its quotes (RFC 1035, 5.1); none of a kind without a text form
   pub items : Option (List (List ℕ))
   -- how each item stands in the text: as it is, or in quotes

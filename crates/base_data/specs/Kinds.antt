@@ -202,10 +202,6 @@ data_places d = (kind_of d).places
 abbrev pub name_flags : RData → List Bool
 name_flags d = map (λ name. name.absolute) (data_names d)
 
--- data as the program's types hold it: numbers have their widths, labels 1 to 63 bytes, options up to 65,535
-abbrev pub FitsTypes : RData → Type 0
-FitsTypes d = (kind_of d).fits
-
 -- the items of its text, a string without its quotes; none of a kind without a text form
 abbrev pub items_of : RData → Option (List (List ℕ))
 items_of d = (kind_of d).items

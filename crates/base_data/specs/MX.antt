@@ -3,7 +3,7 @@ use Rattle.std.specs.Prelude.{ℕ, List, Ok, ◌+◌, ◌++◌, codes, [], ◌�
 use Rattle.std.specs.Int.{w16, to_be_bytes}
 use Rattle.base.specs.Names.{name_at}
 use Rattle.base.specs.Reading.{Read, number_at, ◌>>=◌}
-use Rattle.base.specs.Labels.{AreLabels, AreNameLabels, NameValue, plain_len}
+use Rattle.base.specs.Labels.{AreNameLabels, NameValue, plain_len}
 use Rattle.base.specs.NameText.{name_text}
 use Rattle.base.specs.Words.{NameAt, Number, Then}
 use Rattle.std.specs.Fmt.{decimal}
@@ -60,7 +60,6 @@ mx_kind x = record {
   canonical = to_be_bytes w16 x.preference ++ name_octets x.exchange;
   held = x.exchange ∷ [];
   places = mx_places;
-  fits = (x.preference < 2 ^ 16) × AreLabels x.exchange.labels;
   items = Some (decimal x.preference ∷ name_text x.exchange ∷ []);
   shown = bare;
   spelled = (x.preference < 2 ^ 16) × HasText x.exchange;

@@ -142,7 +142,6 @@ opt_kind x = record {
   canonical = options_wire x;
   held = [];
   places = no_places;
-  fits = All FitsOption x;
   items = None;
   shown = bare;
   spelled = ⊥;

@@ -1,6 +1,6 @@
 -- Data that is one name: what NS, CNAME, PTR and ANAME share.
 use Rattle.std.specs.Prelude.{◌≡◌, ℕ, true, List, [], ◌∷◌, Ok, Option, Some, None, option_map}
-use Rattle.base.specs.Labels.{AreLabels, AreNameLabels, NameValue, plain_len}
+use Rattle.base.specs.Labels.{AreNameLabels, NameValue, plain_len}
 use Rattle.base.specs.NameText.{name_text}
 use Rattle.base.specs.Names.{name_at}
 use Rattle.base.specs.Reading.{Read, ◌>>=◌}
@@ -40,7 +40,6 @@ name_kind name written says = record {
   canonical = name_octets name;
   held = name ∷ [];
   places = own_place;
-  fits = AreLabels name.labels;
   items = Some (name_text name ∷ []);
   shown = bare;
   spelled = HasText name;

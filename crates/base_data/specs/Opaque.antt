@@ -45,7 +45,6 @@ bytes_kind readable x = record {
   canonical = x;
   held = [];
   places = no_places;
-  fits = Unit {0};
   items = None;
   shown = bare;
   spelled = ⊥;

@@ -4,7 +4,7 @@ use Rattle.std.proofs.Common.{arith}
 use Rattle.std.specs.Int.{w32, to_be_bytes}
 use Rattle.base.specs.Names.{name_at}
 use Rattle.base.specs.Reading.{Read, place_after, number_at, ◌>>=◌}
-use Rattle.base.specs.Labels.{AreLabels, AreNameLabels, NameValue, plain_len}
+use Rattle.base.specs.Labels.{AreNameLabels, NameValue, plain_len}
 use Rattle.base.specs.NameText.{name_text}
 use Rattle.base.specs.Words.{NameAt, Number, Then}
 use Rattle.std.specs.Fmt.{decimal}
@@ -137,7 +137,6 @@ soa_kind x = record {
       ++ to_be_bytes w32 x.expire ++ to_be_bytes w32 x.minimum;
   held = x.mname ∷ x.rname ∷ [];
   places = soa_places;
-  fits = AreLabels x.mname.labels × AreLabels x.rname.labels × SOAFits x;
   items = Some
       (name_text x.mname ∷ name_text x.rname ∷ decimal x.serial ∷ decimal x.refresh
       ∷ decimal x.retry

@@ -4,7 +4,7 @@ use Rattle.std.proofs.Common.{refl, arith}
 use Rattle.std.specs.Int.{w16, to_be_bytes}
 use Rattle.base.specs.Names.{name_at}
 use Rattle.base.specs.Reading.{Read, number_at, ◌>>=◌}
-use Rattle.base.specs.Labels.{AreLabels, AreNameLabels, NameValue, plain_len}
+use Rattle.base.specs.Labels.{AreNameLabels, NameValue, plain_len}
 use Rattle.base.specs.NameText.{name_text}
 use Rattle.base.specs.Words.{NameAt, Number, Stands, Then}
 use Rattle.std.specs.Fmt.{decimal}
@@ -109,7 +109,6 @@ srv_kind x = record {
       ++ name_octets x.target;
   held = x.target ∷ [];
   places = srv_places;
-  fits = SRVFits x × AreLabels x.target.labels;
   items = Some (decimal x.priority ∷ decimal x.weight ∷ decimal x.port ∷ name_text x.target ∷ []);
   shown = bare;
   spelled = SRVFits x × HasText x.target;

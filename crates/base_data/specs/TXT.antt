@@ -79,7 +79,6 @@ txt_kind x = record {
   canonical = wire_of x;
   held = [];
   places = no_places;
-  fits = Unit {0};
   items = Some (map (flat_map string_byte) x);
   shown = in_quotes;
   spelled = AreStrings x;

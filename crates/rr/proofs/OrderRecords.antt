@@ -14,7 +14,7 @@ use Rattle.base.specs.Keys.{keys_match}
 use Rattle.base.specs.RecordType.{same_type, type_cmp, type_number, type_rank}
 use Rattle.base.specs.declared.dns_class.DNSClass.{DNSClass}
 use Rattle.base.specs.declared.record_type.RecordType.{RecordType}
-use Rattle.base_data.specs.Kinds.{FitsTypes, type_of_data}
+use Rattle.base_data.specs.Kinds.{KeptData, type_of_data}
 use Rattle.base_data.specs.DataOrder.{data_cmp}
 use Rattle.base_data.proofs.DataTies.{data_ties}
 use Rattle.base_data.specs.contracts.rdata.RDataPartialEq.TheImpl.{ghosts as equality}
@@ -49,7 +49,7 @@ classes_tied = search (comparing, rules)
 numbers_tied : (a b : ℕ) → nat_cmp a b ≡ Equal → a ≡ b
 numbers_tied a b h = (unsigned_Decides a b).0 (unsigned_ties a b ∙ ap is_eq h)
 
-pub records_tied : (a b : Record RData) → FitsTypes a.rdata → FitsTypes b.rdata → (record_cmp a b ≡ Equal)
+pub records_tied : (a b : Record RData) → KeptData a.rdata → KeptData b.rdata → (record_cmp a b ≡ Equal)
     ↔ (IsTrue (same_name a.name b.name) × (type_of_data a.rdata ≡ type_of_data b.rdata) × (a.dns_class ≡ b.dns_class) × (a.ttl ≡ b.ttl) × IsTrue (equality.eq a.rdata b.rdata))
 records_tied a b fits_a fits_b =
     let names = tied_as (same_name a.name b.name) (name_cmp a.name b.name) (same_by-tie folded a.name b.name) in

@@ -1,7 +1,7 @@
 -- What changes of records at places do to the records, and to the index of their places.
 use Rattle.base_data.proofs.DataTies.{data_ties}
 use Rattle.base_data.specs.DataOrder.{data_cmp}
-use Rattle.base_data.specs.Kinds.{FitsTypes}
+use Rattle.base_data.specs.Kinds.{KeptData}
 use Rattle.base_data.specs.SameData.{same_data}
 use Rattle.base_data.specs.contracts.rdata.RDataEq.TheImpl.Laws.{laws-law as data_laws}
 use Rattle.base_data.specs.declared.rdata.RData.{RData}
@@ -185,7 +185,7 @@ inside r ps p h = within ps p h.here where
 
 -- ---- what is found by the index
 
-module _ (find : RData → Option ℕ) (ps : Places) (d : RData) (h : IsPlaceIndex find ps) (fits : FitsTypes d) where
+module _ (find : RData → Option ℕ) (ps : Places) (d : RData) (h : IsPlaceIndex find ps) (fits : KeptData d) where
   -- it has no place
   pub not_found : None ≡ find d → IsNowhere d ps
   not_found none = record { others = λ i r e. false_from_ne_true _ (λ same. none_some i (none ∙ h.at i r d e fits same)) }
@@ -221,7 +221,7 @@ module _ (find : RData → Option ℕ) (ps : Places) (d : RData) (h : IsPlaceInd
 
 pub index_here : (find : RData → Option ℕ) (ps : Places) (p : ℕ) (r : Record RData) → IsPlaceIndex find ps → IsOnlyIn r.rdata ps p → IsPlaceIndex find (set ps p (Some r))
 index_here find ps p r h only = record { at = at } where
-  at : (i : ℕ) (x : Record RData) (d : RData) → slice_get (set ps p (Some r)) i ≡ Some (Some x) → FitsTypes d → same_data x.rdata d ≡ true → find d ≡ Some i
+  at : (i : ℕ) (x : Record RData) (d : RData) → slice_get (set ps p (Some r)) i ≡ Some (Some x) → KeptData d → same_data x.rdata d ≡ true → find d ≡ Some i
   at i x d e fits same = elim (cases_eq i p) [
     | inl at_p ↦
         let is : Some r ≡ Some x = same_Some _ _ (sym (set_here ps p (Some only.known) (Some r) only.here) ∙ ap (slice_get (set ps p (Some r))) (sym at_p) ∙ e) in
@@ -232,7 +232,7 @@ index_here find ps p r h only = record { at = at } where
 
 pub index_taken : (find : RData → Option ℕ) (ps : Places) (p : ℕ) (r : Record RData) → IsPlaceIndex find ps → IsOnlyIn r.rdata ps p → IsPlaceIndex find (set ps p None)
 index_taken find ps p r h only = record { at = at } where
-  at : (i : ℕ) (x : Record RData) (d : RData) → slice_get (set ps p None) i ≡ Some (Some x) → FitsTypes d → same_data x.rdata d ≡ true → find d ≡ Some i
+  at : (i : ℕ) (x : Record RData) (d : RData) → slice_get (set ps p None) i ≡ Some (Some x) → KeptData d → same_data x.rdata d ≡ true → find d ≡ Some i
   at i x d e fits same = elim (cases_eq i p) [
     | inl at_p ↦
         let is : None ≡ Some x = same_Some _ _ (sym (set_here ps p (Some only.known) None only.here) ∙ ap (slice_get (set ps p None)) (sym at_p) ∙ e) in
@@ -240,14 +240,14 @@ index_taken find ps p r h only = record { at = at } where
     | inr other ↦ h.at i x d (sym (set_other ps p i None other) ∙ e) fits same
   ]
 
-tied : (a b : RData) → FitsTypes a → FitsTypes b → same_data a b ≡ true → eq_by_cmp data_cmp a b ≡ true
+tied : (a b : RData) → KeptData a → KeptData b → same_data a b ≡ true → eq_by_cmp data_cmp a b ≡ true
 tied a b fits fits_too same = (Equal-is (data_cmp a b)).1 ((data_ties a b fits fits_too).1 same)
 
-apart : (a b : RData) → FitsTypes a → FitsTypes b → same_data a b ≡ false → eq_by_cmp data_cmp a b ≡ false
+apart : (a b : RData) → KeptData a → KeptData b → same_data a b ≡ false → eq_by_cmp data_cmp a b ≡ false
 apart a b fits fits_too other =
     false_from_ne_true _ (λ e. false_true (sym other ∙ (data_ties a b fits fits_too).0 ((Equal-is (data_cmp a b)).0 e)))
 
-module _ (find after : RData → Option ℕ) (ps : Places) (r : Record RData) (h : IsPlaceIndex find ps) (own : FitsTypes r.rdata) (none : IsNowhere r.rdata ps)
+module _ (find after : RData → Option ℕ) (ps : Places) (r : Record RData) (h : IsPlaceIndex find ps) (own : KeptData r.rdata) (none : IsNowhere r.rdata ps)
     (key : RData) (n : ℕ) (key_is : key ≡ r.rdata) (n_is : n ≡ length ps) (updates : (d : RData) → after d ≡ cond (eq_by_cmp data_cmp key d) (Some n) (find d)) where
   updated : (d : RData) → after d ≡ cond (eq_by_cmp data_cmp r.rdata d) (Some (length ps)) (find d)
   updated d = updates d ∙ (λ i. cond (eq_by_cmp data_cmp (key_is i) d) (Some (n_is i)) (find d))
@@ -262,7 +262,7 @@ module _ (find after : RData → Option ℕ) (ps : Places) (r : Record RData) (h
 
   pub index_last : IsPlaceIndex after (ps ++ Some r ∷ [])
   index_last = record { at = at } where
-    at : (i : ℕ) (x : Record RData) (d : RData) → slice_get (ps ++ Some r ∷ []) i ≡ Some (Some x) → FitsTypes d → same_data x.rdata d ≡ true → after d ≡ Some i
+    at : (i : ℕ) (x : Record RData) (d : RData) → slice_get (ps ++ Some r ∷ []) i ≡ Some (Some x) → KeptData d → same_data x.rdata d ≡ true → after d ≡ Some i
     at i x d e fits same = elim (push_at ps (Some r) (Some x) i e) [
       | inl before ↦ index_ahead.at i x d before fits same
       | inr last ↦

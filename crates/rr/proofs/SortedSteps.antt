@@ -2,7 +2,7 @@
 use Rattle.base_data.proofs.Comparing.{data_cmp-total}
 use Rattle.base_data.proofs.DataTies.{data_ties}
 use Rattle.base_data.specs.DataOrder.{data_cmp}
-use Rattle.base_data.specs.Kinds.{FitsTypes}
+use Rattle.base_data.specs.Kinds.{KeptData}
 use Rattle.base_data.specs.SameData.{same_data}
 use Rattle.base_data.specs.declared.rdata.RData.{RData}
 use Rattle.rr.specs.SortedData.{IsInOrder, IsSortedDataOf}
@@ -23,7 +23,7 @@ use Rattle.std.specs.declared.cmp.Ordering.TheVariants.{Equal, Greater, Less}
 
 -- data of records, in their order
 pub record Gathers (ds : List (Bor RData)) (entries : List (Record RData)) : Type 0 where
-  pub fit : All (λ (d : Bor RData). FitsTypes d.now) ds
+  pub fit : All (λ (d : Bor RData). KeptData d.now) ds
   pub whole : (p : RData → Bool)
       → list_any (λ (d : Bor RData). p d.now) ds ≡ list_any (λ (r : Record RData). p r.rdata) entries
 
@@ -31,15 +31,15 @@ pub none_gathered : Gathers [] []
 none_gathered = record { fit = λ k d h. absurd (omega (arith, h)); whole = λ p. refl }
 
 pub one_gathered : (ds : List (Bor RData)) (entries : List (Record RData)) (d : Bor RData) (r : Record RData) → Gathers ds entries
-    → d.now ≡ r.rdata → FitsTypes r.rdata → Gathers (ds ++ d ∷ []) (entries ++ r ∷ [])
+    → d.now ≡ r.rdata → KeptData r.rdata → Gathers (ds ++ d ∷ []) (entries ++ r ∷ [])
 one_gathered ds entries d r h e fits = record {
-  fit = All-push (λ (x : Bor RData). FitsTypes x.now) ds d h.fit (subst FitsTypes (sym e) fits);
+  fit = All-push (λ (x : Bor RData). KeptData x.now) ds d h.fit (subst KeptData (sym e) fits);
   whole = λ p. list_any-append (λ (x : Bor RData). p x.now) ds (d ∷ [])
       ∙ (λ i. h.whole p i || (p (e i) || false)) ∙ sym (list_any-append (λ (x : Record RData). p x.rdata) entries (r ∷ []));
 }
 
 pub one_more : (ds new : List (Bor RData)) (entries : List (Record RData)) (i : ℕ) (r : Record RData) → i < length entries → r ≡ get_or entries i r
-    → Gathers ds (take i entries) → (d : Bor RData) → new ≡ ds ++ d ∷ [] → d.now ≡ r.rdata → FitsTypes r.rdata → Gathers new (take (i + 1) entries)
+    → Gathers ds (take i entries) → (d : Bor RData) → new ≡ ds ++ d ∷ [] → d.now ≡ r.rdata → KeptData r.rdata → Gathers new (take (i + 1) entries)
 one_more ds new entries i r below is h d grown e fits =
     subst (λ xs. Gathers xs (take (i + 1) entries)) (sym grown)
     (subst (λ rs. Gathers (ds ++ d ∷ []) rs) (ap (λ x. take i entries ++ x ∷ []) is ∙ sym (take_more entries i r below))
@@ -49,7 +49,7 @@ one_more ds new entries i r below is h d grown e fits =
 pub sorted_gathered : (ds new : List (Bor RData)) (entries : List (Record RData)) → Gathers ds entries → IsPermutation ds new
     → IsSortedBy (λ (a b : Bor RData). is_lt (data_cmp a.now b.now)) new → IsSortedDataOf new entries
 sorted_gathered ds new entries h moved up = record {
-  in_order = record { sorted = up; fit = All-permutation (λ (d : Bor RData). FitsTypes d.now) ds new moved h.fit };
+  in_order = record { sorted = up; fit = All-permutation (λ (d : Bor RData). KeptData d.now) ds new moved h.fit };
   whole = λ p. sym (list_any-IsPermutation (λ (d : Bor RData). p d.now) ds new moved) ∙ h.whole p;
 }
 
@@ -67,7 +67,7 @@ less_tied e = cc
 greater_tied : Greater ≡ Equal → ⊥
 greater_tied e = cc
 
-module _ (ds : List (Bor RData)) (x : RData) (h : IsInOrder ds) (fits : FitsTypes x) where
+module _ (ds : List (Bor RData)) (x : RData) (h : IsInOrder ds) (fits : KeptData x) where
   tied : (k : ℕ) (d : Bor RData) → k < length ds → same_data x (get_or ds k d).now ≡ true → data_cmp (get_or ds k d).now x ≡ Equal
   tied k d below same = (data_ties (get_or ds k d).now x (h.fit k d below) fits).1 (data_laws.symm (get_or ds k d).now x ∙ same)
 

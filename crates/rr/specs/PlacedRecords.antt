@@ -1,5 +1,5 @@
 -- Records that keep their places: the place of a record that was taken out is empty.
-use Rattle.base_data.specs.Kinds.{FitsTypes}
+use Rattle.base_data.specs.Kinds.{KeptData}
 use Rattle.base_data.specs.SameData.{same_data}
 use Rattle.base_data.specs.declared.rdata.RData.{RData}
 use Rattle.rr.specs.declared.record.Record.{Record}
@@ -15,7 +15,7 @@ present (Some r ∷ ps) = r ∷ present ps
 -- The index has the place of each record, at all data equal to the record's. What it has at other data is open.
 pub record IsPlaceIndex (find : RData → Option ℕ) (ps : List (Option (Record RData))) : Type 0 where
   pub at : (i : ℕ) (r : Record RData) (rdata : RData) → slice_get ps i ≡ Some (Some r)
-      → FitsTypes rdata → same_data r.rdata rdata ≡ true → find rdata ≡ Some i
+      → KeptData rdata → same_data r.rdata rdata ≡ true → find rdata ≡ Some i
 
 -- at no place there is a record of this data
 pub record IsNowhere (rdata : RData) (ps : List (Option (Record RData))) : Type 0 where

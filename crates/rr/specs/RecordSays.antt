@@ -7,7 +7,7 @@ use Rattle.base.specs.SaysName.{Says-name}
 use Rattle.base.specs.SaysParts.{Says-both, Says-number, Says-number32, Says-sized, Says-unowned, Says-weaker}
 use Rattle.base.specs.Words.{IsNumberAt, NameAt, Number, Sized, Then}
 use Rattle.base.specs.Written.{Writing, both, just, name, sized}
-use Rattle.base_data.specs.Kinds.{DataWord, data_written, plain_data}
+use Rattle.base_data.specs.Kinds.{DataWord, KeptData, data_written, plain_data}
 use Rattle.base_data.specs.declared.rdata.RData.{RData}
 use Rattle.rr.specs.Record.{RecordWord, plain_record, raw_record, record_written}
 use Rattle.rr.specs.declared.record.Record.{Record}
@@ -22,6 +22,10 @@ pub record FieldsFit (type class ttl : ℕ) : Type 0 where
 abbrev pub RecordKept : Record RData → Type 0 → Type 0
 RecordKept r kept = let raw = raw_record r in AreNameLabels raw.labels
     × (FieldsFit raw.type raw.class raw.ttl × kept)
+
+-- the same, of data of any kind
+abbrev pub KeptRecord : Record RData → Type 0
+KeptRecord r = RecordKept r (KeptData r.rdata)
 
 -- what stands one after another are the fields of a record
 record_word : (r : Record RData) (B : List ℕ) (i e : ℕ) → let raw = raw_record r

@@ -1,17 +1,18 @@
 //! What is true of all data, and whether the wire gives data back.
 
 ghost use Rattle.std.specs.Prelude.{◌≡◌, ◌↔◌, IsTrue};
-ghost use Rattle.base_data.specs.Kinds.{FitsTypes, IsReadable, is_carried};
+ghost use Rattle.base_data.specs.Kinds.{IsReadable, KeptData, is_carried};
 
 use crate::rdata::RData;
 use base::RecordType;
 
 impl RData {
-    /// Tells a caller what is true of all data: its numbers have the bits of their types, the labels of its names have
-    /// 1 to 63 bytes (RFC 1035, 2.3.4), and each EDNS option has 65,535 bytes at most (RFC 6891, 6.1.2). So the order
-    /// of data ties exactly equal data. Goes through the options of an OPT record, and nothing else takes time.
+    /// Tells a caller what is true of all data: its numbers have the bits of their types, its names have labels of 1 to
+    /// 63 bytes and take 255 at most (RFC 1035, 2.3.4), and each EDNS option has 65,535 at most (RFC 6891, 6.1.2). So
+    /// the order of data ties exactly equal data. Goes through the options of an OPT record, and nothing else takes
+    /// time.
     pub fn fits(&self)
-        ensures { FitsTypes self.now }
+        ensures { KeptData self.now }
     {
         match self {
             RData::NS(rdata) => {
@@ -40,10 +41,7 @@ impl RData {
                 rdata.number_octets();
             }
             RData::OPT(rdata) => {
-                'options: for option in rdata.as_ref() {
-                    option.code();
-                    option.bytes();
-                }
+                rdata.fits();
             }
             RData::A(_)
             | RData::AAAA(_)

@@ -8,7 +8,7 @@ ghost use Rattle.std.specs.Net.Addr.{octets_of};
 ghost use Rattle.std.specs.Net.Grammar.{IsColonHex, IsDotted};
 ghost use Rattle.base.specs.NameOrder.{same_name};
 ghost use Rattle.base.specs.declared.record_type.RecordType.TheVariants as types;
-ghost use Rattle.base_data.specs.Kinds.{DataWord, FitsTypes, HasTextForm, data_of, data_text, items_of, kind_rank, shown_item, type_of_data};
+ghost use Rattle.base_data.specs.Kinds.{DataWord, HasTextForm, KeptData, data_of, data_text, items_of, kind_rank, shown_item, type_of_data};
 ghost use Rattle.base_data.specs.DataOrder.{data_cmp};
 ghost use Rattle.base_data.specs.RData.{is_signature_data, signature_in};
 ghost use Rattle.base_data.specs.SameData.{same_data};
@@ -95,7 +95,7 @@ pub fn equal_data_has_one_type()
 /// its types (RFC 4034, 6.2 and 6.3).
 pub fn data_order()
     ensures total { IsTotalOrder data_cmp }
-    ensures ties { (a b : AnyData) → FitsTypes a → FitsTypes b
+    ensures ties { (a b : AnyData) → KeptData a → KeptData b
         → (data_cmp a b ≡ Ordering.Equal) ↔ IsTrue (⟦<RData as PartialEq>⟧.eq a b) }
 {}
 

@@ -102,6 +102,17 @@ impl OPT {
     {
         &self.options
     }
+
+    /// Tells a caller what is true of all options: a code has two bytes, and so has the number of an option's bytes
+    /// (RFC 6891, 6.1.2).
+    pub fn fits(&self)
+        ensures { All FitsOption self.now }
+    {
+        'options: for option in self.as_ref() {
+            option.code();
+            option.bytes();
+        }
+    }
 }
 
 impl SizedData for OPT {

@@ -1,8 +1,9 @@
-//! Whether the wire carries a record.
+//! What is true of all records, and whether the wire carries one.
 
 ghost use Rattle.std.specs.Prelude.{◌≡◌, ◌<◌, ◌↔◌, [], IsTrue, false};
 ghost use Rattle.base.specs.DNSClass.{class_number, class_of, opt_class};
 ghost use Rattle.rr.specs.Record.{FitsRecord};
+ghost use Rattle.rr.specs.RecordSays.{KeptRecord};
 
 use crate::record::Record;
 use base::{DNSClass, RecordType};
@@ -12,6 +13,18 @@ use base_data::RData;
 const TOP_BIT: u16 = 0x8000;
 
 impl Record<RData> {
+    /// Tells a caller what is true of all records: type, class and TTL have the bits of their fields, the owner has
+    /// labels of 1 to 63 bytes and takes 255 at most (RFC 1035, 2.3.4 and 3.2.1), and what `RData::fits` tells of data.
+    pub fn fits(&self)
+        ensures { KeptRecord self.now }
+    {
+        self.name.as_wire();
+        u16::from(self.record_type());
+        self.dns_class.to_field(self.mdns_cache_flush);
+        let _ttl = self.ttl;
+        self.rdata.fits();
+    }
+
     /// Whether the record can stand on the wire and is read there as it was: its owner is absolute, its data is
     /// readable, type and class are those of their numbers, and the class leaves its top bit free (RFC 1035, 3.2.1; RFC
     /// 6762, 10.2). The owner of an OPT record is the root, and its class a payload size of 512 at least (RFC 6891,

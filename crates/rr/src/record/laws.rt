@@ -5,7 +5,7 @@ ghost use Rattle.std.specs.Cmp.{IsEquivalence, IsTotalOrder};
 ghost use Rattle.base.specs.NameOrder.{same_name};
 ghost use Rattle.base.specs.Spelling.{NamesStand};
 ghost use Rattle.base.specs.declared.error.decode_error.DecodeError.{DecodeError};
-ghost use Rattle.base_data.specs.Kinds.{FitsTypes, type_of_data};
+ghost use Rattle.base_data.specs.Kinds.{KeptData, type_of_data};
 ghost use Rattle.base_data.specs.declared.rdata.RData.{RData};
 ghost use Rattle.rr.specs.Record.{FitsRecord, IsReadableRecord, IsRecordAt, IsRecordFault, RecordWord, decremented, raw_record, record_at, record_names, record_places, record_value};
 ghost use Rattle.rr.specs.RecordOrder.{record_cmp};
@@ -48,7 +48,7 @@ pub fn equal_records<R: RecordData>()
 /// and TTL, and equal data.
 pub fn canonical_order()
     ensures total { IsTotalOrder record_cmp }
-    ensures ties { (a b : Entry RData) → FitsTypes a.rdata → FitsTypes b.rdata
+    ensures ties { (a b : Entry RData) → KeptData a.rdata → KeptData b.rdata
         → (record_cmp a b ≡ Ordering.Equal)
         ↔ (IsTrue (same_name a.name b.name) × (type_of_data a.rdata ≡ type_of_data b.rdata)
         × (a.dns_class ≡ b.dns_class) × (a.ttl ≡ b.ttl)

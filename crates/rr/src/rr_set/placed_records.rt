@@ -1,7 +1,7 @@
 //! The records of a set at places that they keep, so that a change of one moves no other.
 
 ghost use Rattle.base_data.specs.DataOrder.{data_cmp};
-ghost use Rattle.base_data.specs.Kinds.{FitsTypes};
+ghost use Rattle.base_data.specs.Kinds.{KeptData};
 ghost use Rattle.base_data.specs.declared.rdata.RData.{RData};
 ghost use Rattle.rr.specs.PlacedRecords.{IsNowhere, IsOnlyIn, IsPlaceIndex, present};
 ghost use Rattle.rr.specs.SetChanges.{joined};
@@ -137,7 +137,7 @@ fn place_of(
 ) -> Option<usize>
     requires indexed { IsPlaceIndex (get data_cmp index.now) places.now.items }
     requires key { key.now ≡ entry.now.rdata }
-    requires fits { FitsTypes entry.now.rdata }
+    requires fits { KeptData entry.now.rdata }
     ensures { MatchOption result (IsNowhere entry.now.rdata places.now.items)
         (IsOnlyIn entry.now.rdata places.now.items) }
 {
