@@ -7,6 +7,7 @@ pub mod DataOrder
 pub mod Equality
 pub mod Escape
 pub mod Fields
+pub mod Generic
 pub mod ItemFault
 pub mod InPlace
 pub mod Kind

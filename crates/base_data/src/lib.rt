@@ -4,6 +4,7 @@
 pub mod rdata;
 pub mod record_data;
 
+pub use rdata::generic::parse_type;
 pub use rdata::{
     A, AAAA, ANAME, CNAME, EdnsOption, MX, NS, NULL, OPT, PTR, RData, SOA, SRV, TSIG, TXT,
 };

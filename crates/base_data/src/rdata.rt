@@ -14,6 +14,7 @@ mod canonical;
 pub mod cname;
 mod fields;
 mod fits;
+pub mod generic;
 mod hex_text;
 mod items;
 pub mod laws;
