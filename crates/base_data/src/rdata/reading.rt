@@ -21,7 +21,6 @@ impl RData {
     ///
     /// `BadData` where the bytes are no data of the type, where the data doesn't fill its length exactly, and for data
     /// of type 0 that has a byte; `Memory` if memory runs out.
-    #[tactic(auto, unfolding(crate::specs::RData::rdata_at))]
     pub fn read(
         decoder: &mut BinDecoder<'_>,
         record_type: RecordType,
@@ -34,15 +33,39 @@ impl RData {
             decoder.new result }
     {
         let mut rdata = RData::Update0(record_type);
-        if len == 0 {
-            return Ok(rdata);
-        }
+        rdata.read_in_place(decoder, record_type, len)?;
+        Ok(rdata)
+    }
+
+    /// Reads data as `read` does, but in the place of empty data, since it is faster not to move what was read.
+    ///
+    /// # Errors
+    ///
+    /// Those of `read`.
+    #[tactic(auto, unfolding(crate::specs::RData::rdata_at))]
+    pub fn read_in_place(
+        &mut self,
+        decoder: &mut BinDecoder<'_>,
+        record_type: RecordType,
+        len: u16,
+    ) -> Result<(), DecodeError>
+        requires empty { is_empty_data self.old ≡ true }
+        ensures read { Reads (λ _. self.new) decoder.old decoder.new result
+            (rdata_at record_type len decoder.old.bytes decoder.old.index) }
+        // As of every read, see `BinDecodable::read`: of the names of the data.
+        ensures tracks { Tracks (λ _. data_places self.new decoder.old.bytes decoder.old.index)
+            decoder.old decoder.new result }
+    {
         let end = decoder.index() + usize::from(len);
-        if let Err(reason) = rdata.read_kind(decoder, record_type, len) {
+        if len == 0 {
+            *self = RData::Update0(record_type);
+            return Ok(());
+        }
+        if let Err(reason) = self.read_kind(decoder, record_type, len) {
             return Err(reason.fault(record_type));
         }
         if decoder.index() == end {
-            Ok(rdata)
+            Ok(())
         } else {
             Err(DecodeError::BadData(record_type))
         }

@@ -205,7 +205,7 @@ fn record(decoder: &mut BinDecoder<'_>, bytes: &[u8], section: Section) -> Resul
 {
     let place = decoder.index();
     let mut record = Record::update0(Name::root(decoder.allocator()), 0, RecordType::ZERO);
-    let type_place = record.read_in_place(decoder)?;
+    let (_, type_place) = record.read_in_place(decoder)?;
     let mut fields = BinDecoder::new(decoder.allocator(), bytes);
     let _before = fields.read_slice(type_place)?;
     let found = read_fields(&mut fields, place)?;

@@ -1,12 +1,13 @@
 //! Reads records.
 
-ghost use Rattle.std.specs.Prelude.{◌≡◌, ◌+◌, ◌<◌, length, IfErr, IfOk, Ok, OnOk, []};
+ghost use Rattle.std.specs.Prelude.{◌≡◌, ◌+◌, ◌<◌, length, IfErr, IfOk, Ok, OnOk, [], true};
 ghost use Rattle.std.specs.Int.{w16, w32};
 ghost use Rattle.base.specs.Names.{name_at};
 ghost use Rattle.base.specs.Reading.{Reads};
 ghost use Rattle.base.specs.Tracks.{Tracks};
 ghost use Rattle.base.specs.Words.{IsNumberAt};
-ghost use Rattle.base_data.specs.Kinds.{data_places};
+ghost use Rattle.base_data.specs.Kinds.{data_places, type_of_data};
+ghost use Rattle.base_data.specs.RData.{is_empty_data};
 ghost use Rattle.rr.specs.Record.{body_at, class_value, flush_value, is_opt_type, record_at, record_places};
 
 use crate::record::Record;
@@ -30,24 +31,29 @@ impl BinDecodable for Record<RData> {
     /// doesn't read. `Memory` if memory runs out.
     fn read(decoder: &mut BinDecoder<'_>) -> Result<Record<RData>, DecodeError> {
         let mut record = Record::update0(Name::root(decoder.allocator()), 0, RecordType::ZERO);
-        let _type_place = record.read_in_place(decoder)?;
+        record.read_in_place(decoder)?;
         Ok(record)
     }
 }
 
 impl Record<RData> {
-    /// Reads a record at the decoder's place as `read` does, but in the place of this one, since it is faster not to
-    /// move what was read. Answers the place after its owner, where its type stands.
+    /// Reads a record at the decoder's place as `read` does, but in the place of one without data, since it is faster not
+    /// to move what was read. Answers its type, and the place after its owner, where the type stands.
     ///
     /// # Errors
     ///
     /// Those of `read`. What is left in the place then is no record of the message.
     #[tactic(auto, unfolding(crate::specs::Record::record_at))]
-    pub fn read_in_place(&mut self, decoder: &mut BinDecoder<'_>) -> Result<usize, DecodeError>
+    pub fn read_in_place(
+        &mut self,
+        decoder: &mut BinDecoder<'_>,
+    ) -> Result<(RecordType, usize), DecodeError>
+        requires empty { is_empty_data self.old.rdata ≡ true }
         ensures read { Reads (λ _. self.new) decoder.old decoder.new result
             (record_at decoder.old.bytes decoder.old.index) }
-        ensures owner { IfOk result (λ type_place.
-            name_at decoder.old.bytes decoder.old.index ≡ Ok (self.new.name, type_place)) }
+        ensures type_is { IfOk result (λ r. type_of_data self.new.rdata ≡ r.0) }
+        ensures owner { IfOk result (λ r. name_at decoder.old.bytes decoder.old.index
+            ≡ Ok (self.new.name, r.1)) }
         // As of every read, see `BinDecodable::read`: of the names of the record.
         ensures tracks { Tracks (λ _. record_places decoder.old.bytes decoder.old.index)
             decoder.old decoder.new result }
@@ -60,7 +66,7 @@ impl Record<RData> {
             return Err(DecodeError::EdnsNameNotRoot(mem::replace(&mut self.name, root)));
         }
         self.read_body(decoder, record_type)?;
-        Ok(type_place)
+        Ok((record_type, type_place))
     }
 
     /// Reads what comes after the type of a record, which has its name.
@@ -70,8 +76,10 @@ impl Record<RData> {
         decoder: &mut BinDecoder<'_>,
         record_type: RecordType,
     ) -> Result<(), DecodeError>
+        requires empty { is_empty_data self.old.rdata ≡ true }
         ensures read { Reads (λ _. self.new) decoder.old decoder.new result
             (body_at self.old.name record_type decoder.old.bytes decoder.old.index) }
+        ensures type_is { IfOk result (λ _. type_of_data self.new.rdata ≡ record_type) }
         ensures owner { self.new.name ≡ self.old.name }
         // As of every read, see `BinDecodable::read`: of the names of the data.
         ensures tracks { Tracks
@@ -87,10 +95,10 @@ impl Record<RData> {
                 len: usize::from(len),
             });
         }
-        self.rdata = RData::read(decoder, record_type, len)?;
         self.dns_class = dns_class;
         self.ttl = ttl;
         self.mdns_cache_flush = mdns_cache_flush;
+        self.rdata.read_in_place(decoder, record_type, len)?;
         Ok(())
     }
 }

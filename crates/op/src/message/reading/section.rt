@@ -86,8 +86,7 @@ fn read_each(
     for _ in 0..count {
         // the record stays where it was read until it is among the others, since moving it is slow
         let mut next = Record::update0(Name::root(alloc), 0, RecordType::ZERO);
-        next.read_in_place(decoder)?;
-        let record_type = next.record_type();
+        let (record_type, _) = next.read_in_place(decoder)?;
         if let Some(fault) = fault_of(edns, signature, &next, record_type, is_additional, op_code) {
             return Err(fault);
         }

@@ -6,6 +6,7 @@ use Rattle.base.specs.Reading.{Fails}
 use Rattle.base.specs.declared.error.decode_error.DecodeError.TheVariants.{IncorrectRDataLengthRead}
 use Rattle.base_data.specs.Kinds.{data_places}
 use Rattle.base_data.specs.RData.{rdata_at}
+use Rattle.base_data.proofs.DataRows.{data_says}
 use Rattle.rr.proofs.RecordFaults.{body_cut, body_long}
 use Rattle.rr.proofs.ReadSteps.{body_read, data_fails, over_both, placed, room}
 use Rattle.rr.proofs.record.reading.Record+RData.read_body.Goals as goal
@@ -36,18 +37,18 @@ returns-then-left-from-clause-read c =
 pub returns-then-left-from-clause-tracks : goal.returns-then-left-from-clause-tracks
 returns-then-left-from-clause-tracks c = bounded_here c.in_ok-class.ensures.tracks
 
-pub returns-in_err-self-clause-read : goal.returns-in_err-self-clause-read
-returns-in_err-self-clause-read c =
-    let p = err_from_is_err_and c.from_residual-in_err-self.result c.from_residual-in_err-self.ensures.1 in
+pub returns-in_err-read_in_place-clause-read : goal.returns-in_err-read_in_place-clause-read
+returns-in_err-read_in_place-clause-read c =
+    let p = err_from_is_err_and c.from_residual-in_err-read_in_place.result c.from_residual-in_err-read_in_place.ensures.1 in
     let at = c.args.decoder.now in
     let owner = c.args.self.now.name in
     let found = c.in_ok-class.ensures.found in
     let after = c.in_ok-class.ensures.after in
     let left = c.len-left.ensures.left ∙ placed after.1 after.0 (λ (B : List ℕ) (k : ℕ). length B - k) in
     let fits = room owner c.args.record_type at.bytes at.index found.0 found.1 found.2 left c.from.ensures c.if-left-from.false in
-    let fault = c.in_err-self.field-0.0 in
+    let fault = c.in_err-read_in_place.field-0.0 in
     rw (p.1, p.2) (data_fails owner c.args.record_type at.bytes at.index found.0 found.1 found.2 fits fault
-    (over_both after.1 after.0 (λ (B : List ℕ) (k : ℕ). Fails fault (rdata_at c.args.record_type c.in_ok-class.field-0.len B k)) c.in_err-self.ensures.read))
+    (over_both after.1 after.0 (λ (B : List ℕ) (k : ℕ). Fails fault (rdata_at c.args.record_type c.in_ok-class.field-0.len B k)) c.in_err-read_in_place.ensures.read))
 
 pub returns-clause-read : goal.returns-clause-read
 returns-clause-read c =
@@ -56,15 +57,20 @@ returns-clause-read c =
     let found = c.in_ok-class.ensures.found in
     let after = c.in_ok-class.ensures.after in
     let kind = c.class_of_field-dns_class in
-    let rdata = c.in_ok-self.ensures.read in
+    let rdata = c.in_ok-read_in_place.ensures.read in
     let left = c.len-left.ensures.left ∙ placed after.1 after.0 (λ (B : List ℕ) (k : ℕ). length B - k) in
     let fits = room owner c.args.record_type at.bytes at.index found.0 found.1 found.2 left c.from.ensures c.if-left-from.false in
-    let rdata_is = over_both after.1 after.0 (λ (B : List ℕ) (k : ℕ). rdata_at c.args.record_type c.in_ok-class.field-0.len B k ≡ Ok (c.in_ok-self.field-0, c.read.new.decoder.index)) rdata.0 in
+    let rdata_is = over_both after.1 after.0 (λ (B : List ℕ) (k : ℕ). rdata_at c.args.record_type c.in_ok-class.field-0.len B k ≡ Ok (c.read_in_place.new.self, c.read_in_place.new.decoder.index)) rdata.0 in
     (body_read owner c.args.record_type at.bytes at.index found.0 found.1 found.2 fits rdata_is kind.ensures.class kind.ensures.flush, rdata.1 ∙ after.1)
+
+pub returns-clause-type_is : goal.returns-clause-type_is
+returns-clause-type_is c =
+    let begun = c.read_fields.new.decoder in
+    (data_says c.args.record_type c.in_ok-class.field-0.len begun.bytes begun.index (c.read_in_place.new.self, c.read_in_place.new.decoder.index) c.in_ok-read_in_place.ensures.read.0).0.type_is
 
 pub returns-clause-tracks : goal.returns-clause-tracks
 returns-clause-tracks c =
     let after = c.in_ok-class.ensures.after in
-    over_both after.1 after.0 (λ (B : List ℕ) (k : ℕ). Tracked (data_places c.in_ok-self.field-0 B k) c.args.decoder.now
-    c.read.new.decoder)
-    (tracked_both c.in_ok-class.ensures.tracks c.in_ok-self.ensures.tracks)
+    over_both after.1 after.0 (λ (B : List ℕ) (k : ℕ). Tracked (data_places c.read_in_place.new.self B k) c.args.decoder.now
+    c.read_in_place.new.decoder)
+    (tracked_both c.in_ok-class.ensures.tracks c.in_ok-read_in_place.ensures.tracks)
