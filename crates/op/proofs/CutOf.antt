@@ -11,7 +11,7 @@ use Rattle.base.specs.Written.{FirstPassesAt, Writing, after}
 use Rattle.base_data.specs.Kinds.{data_says}
 use Rattle.base_data.specs.declared.rdata.RData.{RData}
 use Rattle.rr.specs.Record.{FitsRecord, plain_record, record_written}
-use Rattle.rr.specs.RecordSays.{record_says}
+use Rattle.rr.specs.RecordSays.{KeptRecord, record_says}
 use Rattle.rr.specs.declared.record.Record.{Record}
 use Rattle.op.specs.Cut.{IsCut, IsFront, IsWritten, NoRoom, any_lost, code_range, raised}
 use Rattle.op.specs.EdnsRecord.{edns_record}
@@ -19,7 +19,7 @@ use Rattle.op.specs.Fits.{Fits, FitsAdditional, FitsEdns, FitsPlain, as_list, si
 use Rattle.op.specs.Header.{HeaderWord, IsNarrow, header_bytes, header_value, metadata_value, raw_header}
 use Rattle.op.specs.HeaderSays.{header_stands}
 use Rattle.op.specs.Message.{IsMessageAt, MessageValue, high_code, message_of}
-use Rattle.op.specs.MessageKept.{KeptRecord, MessageKept}
+use Rattle.op.specs.MessageKept.{MessageKept}
 use Rattle.op.specs.MessageWritten.{LostForRoom, Part, Parts, body, header_of, message_answer, message_answer_at, message_written, parts_of}
 use Rattle.op.specs.OpCode.{op_number, op_value}
 use Rattle.op.specs.Query.{FitsQuery, query_written}

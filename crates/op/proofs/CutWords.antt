@@ -13,11 +13,10 @@ use Rattle.base.specs.Written.{in_turn}
 use Rattle.base_data.specs.Kinds.{data_says}
 use Rattle.base_data.specs.declared.rdata.RData.{RData}
 use Rattle.rr.specs.Record.{FitsRecord, IsRecordAt, RecordWord, plain_record, record_written}
-use Rattle.rr.specs.RecordSays.{record_says}
+use Rattle.rr.specs.RecordSays.{KeptRecord, record_says}
 use Rattle.rr.specs.declared.record.Record.{Record}
 use Rattle.op.specs.Cut.{AreCompressed, query_owners, record_owners}
 use Rattle.op.specs.Header.{RawHeader, header_bytes}
-use Rattle.op.specs.MessageKept.{KeptRecord}
 use Rattle.op.specs.MessageWritten.{Parts, body}
 use Rattle.op.specs.Query.{FitsQuery, IsQueryAt, QueryWord, plain_query, query_written}
 use Rattle.op.specs.QuerySays.{QueryKept, query_says}

@@ -15,13 +15,13 @@ use Rattle.base.proofs.WrittenLemmas.{after-both}
 use Rattle.base_data.specs.declared.rdata.RData.{RData}
 use Rattle.rr.specs.Record.{record_written}
 use Rattle.rr.specs.declared.record.Record.{Record}
+use Rattle.rr.specs.RecordSays.{KeptRecord}
 use Rattle.op.specs.Composition.{AddsCounts, Composition, CountsItems, EmitsPart, KeepsRoom, Narrows, WritesFront}
 use Rattle.op.specs.Cut.{raised}
 use Rattle.op.specs.EdnsRecord.{edns_record}
 use Rattle.op.specs.Fits.{as_list, opt_records, signature_record, with_high_bits}
 use Rattle.op.specs.Header.{header_bytes, raw_header}
 use Rattle.op.specs.Message.{MessageValue}
-use Rattle.op.specs.MessageKept.{KeptRecord}
 use Rattle.op.specs.MessageWritten.{Answers, Part, Parts, body, header_of, message_answer_at, message_written, parts_of}
 use Rattle.op.specs.Query.{query_written}
 use Rattle.op.specs.QuerySays.{QueryKept}

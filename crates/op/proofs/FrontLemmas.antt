@@ -16,11 +16,11 @@ use Rattle.base.proofs.SliceLemmas.{all_now}
 use Rattle.base_data.specs.declared.rdata.RData.{RData}
 use Rattle.rr.specs.Record.{record_written}
 use Rattle.rr.specs.declared.record.Record.{Record}
+use Rattle.rr.specs.RecordSays.{KeptRecord}
 use Rattle.op.specs.Composition.{CountsItems, Narrows, WritesFront, WritesItems, WritesRecordItems}
 use Rattle.op.specs.Cut.{any_lost}
 use Rattle.op.specs.EdnsRecord.{edns_record}
 use Rattle.op.specs.Fits.{as_list, opt_records, signature_record, signature_records}
-use Rattle.op.specs.MessageKept.{KeptRecord}
 use Rattle.op.specs.ResponseCode.{code_high}
 use Rattle.op.specs.declared.edns.Edns.{Edns}
 use Rattle.op.specs.declared.edns.writing.RaisedEdns.{RaisedEdns}

@@ -1,6 +1,6 @@
 -- A message that was read fits.
 use Rattle.std.proofs.Common.{◌≡◌, ℕ, ◌%◌, ◌<◌, ◌≤◌, Bool, true, false, cond, List, [], ◌∷◌, refl, ap, sym, ◌∙◌, subst, arith, rules, Option, Some, None, inl, inr}
-use Rattle.std.specs.Prelude.{All, ◌||◌, not, filter, find, nat_lt}
+use Rattle.std.specs.Prelude.{All, not, filter, find, nat_lt}
 use Rattle.std.specs.Option.{option_map}
 use Rattle.std.proofs.lemmas.Bool.{cases_Bool, ltb-false}
 use Rattle.std.proofs.lemmas.List.Elements.{All-cons, All-nil, All-tail}
@@ -125,10 +125,9 @@ pub listed_map : {X Y : Type 0} (P : X → Type 0) (Q : Y → Type 0) (f : X →
 listed_map P Q f follows None all = All-nil Q
 listed_map P Q f follows (Some x) all = All-cons Q (f x) [] (follows x (all 0 x (omega arith))) (All-nil Q)
 
-neither : (o g : Bool) → not (o || g) ≡ true → (o ≡ false) × (g ≡ false)
-neither true g is = cc
-neither false true is = cc
-neither false false is = (refl, refl)
+untrue : (b : Bool) → not b ≡ true → b ≡ false
+untrue true is = cc
+untrue false is = refl
 
 -- a record whose data is a signature is the record of that signature
 signed : (r : Record RData) → is_signature_data r.rdata ≡ true → signature_record (signature_of r) ≡ r
@@ -178,8 +177,7 @@ module _ (B : List ℕ) (i : ℕ) (m : MessageValue) (e : ℕ) (w : IsMessageAt 
       let all = filtered (IsRead w.header.metadata.op_code) is_plain_record w.additionals additionals_read in
       λ n d below.
       let f = all n d below in
-      let kinds_of = neither _ _ f.passes in
-      record { fits = f.has.fits; given = f.has.given; not_opt = kinds_of.0; not_signature = kinds_of.1 }
+      record { fits = f.has.fits; given = f.has.given; placed = untrue _ f.passes }
 
   edns_fit : All FitsEdns (as_list (option_map edns_of (find is_opt w.additionals)))
   edns_fit =

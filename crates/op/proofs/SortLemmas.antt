@@ -1,6 +1,6 @@
 -- The additional records of a message that was written: its own, then EDNS, then the signature.
 use Rattle.std.proofs.Common.{◌≡◌, ℕ, ◌≤◌, Bool, true, false, List, [], ◌∷◌, ◌++◌, length, refl, ap, sym, ◌∙◌, subst, arith, Option, Some, None}
-use Rattle.std.proofs.lemmas.Bool.{true≢false}
+use Rattle.std.proofs.lemmas.Bool.{or_parts, true≢false}
 use Rattle.std.specs.Prelude.{All, ◌||◌, not, filter, find, map}
 use Rattle.std.specs.Option.{option_map, option_or}
 use Rattle.std.proofs.lemmas.List.{append-nil}
@@ -97,15 +97,12 @@ listed : {X Y : Type 0} (P : Y → Type 0) (f : X → Y) → ((x : X) → P (f x
 listed P f holds None = All-nil P
 listed P f holds (Some x) = All-cons P (f x) [] (holds x) (All-nil P)
 
-ordinary : (o g : Bool) → o ≡ false → g ≡ false → not (o || g) ≡ true
-ordinary o g is isnt = rw (is, isnt) refl
-
 module _ (ds : List (Record RData)) (op : OpCode) (fits : All (FitsAdditional op) ds) (edns : Option Edns) (signature : Option (Record (List ℕ))) where
   no_opts : All (λ r. is_opt r ≡ false) ds
-  no_opts = λ k d below. (fits k d below).not_opt
+  no_opts = λ k d below. (or_parts _ _ (fits k d below).placed).0
 
   no_signatures : All (λ r. is_signature r ≡ false) ds
-  no_signatures = λ k d below. (fits k d below).not_signature
+  no_signatures = λ k d below. (or_parts _ _ (fits k d below).placed).1
 
   found : (p : Record RData → Bool) → All (λ r. p r ≡ false) ds → find p (ds ++ tail edns signature) ≡ find p (tail edns signature)
   found p none = find-append p ds (tail edns signature) ∙ ap (λ o. option_or o (find p (tail edns signature))) (none_pass p ds none).1
@@ -114,7 +111,7 @@ module _ (ds : List (Record RData)) (op : OpCode) (fits : All (FitsAdditional op
   pub sorted : All FitsEdns (as_list edns) → section_of (ds ++ tail edns signature) ≡ record { records = ds; edns = edns; signature = signature }
   sorted fits_edns =
       let rest = is_tail edns signature in
-      let ordinaries : All (λ r. is_plain_record r ≡ true) ds = λ k d below. ordinary _ _ (fits k d below).not_opt (fits k d below).not_signature in
+      let ordinaries : All (λ r. is_plain_record r ≡ true) ds = λ k d below. ap not (fits k d below).placed in
       let records = filter-append is_plain_record ds (tail edns signature) ∙ ap (λ xs. filter is_plain_record ds ++ xs) rest.ordinary ∙ append-nil (filter is_plain_record ds)
       ∙ filter_all is_plain_record ds ordinaries in
       let opt = ap (option_map edns_of) (found is_opt no_opts ∙ rest.opt) ∙ edns_kept edns fits_edns in

@@ -8,9 +8,9 @@ use Rattle.base.specs.declared.error.proto_error.ProtoError.TheVariants as refus
 use Rattle.base_data.specs.declared.rdata.RData.{RData}
 use Rattle.rr.specs.Record.{record_written}
 use Rattle.rr.specs.declared.record.Record.{Record}
+use Rattle.rr.specs.RecordSays.{KeptRecord}
 use Rattle.op.specs.Cut.{any_lost}
 use Rattle.op.specs.Header.{IsNarrow, header_bytes, raw_header}
-use Rattle.op.specs.MessageKept.{KeptRecord}
 use Rattle.op.specs.declared.header.Header.{Header}
 use Rattle.op.specs.declared.header.metadata.Metadata.{Metadata}
 use Rattle.op.specs.declared.message.writing.Written.{Written}

@@ -1,6 +1,6 @@
 -- Messages that the wire can carry (RFC 1035, 4.1; RFC 2136, 2.4 and 2.5; RFC 6891, 6.1; RFC 8945, 5.1).
 use Rattle.base.specs.declared.limits.TheConstants.{MIN_PAYLOAD}
-use Rattle.std.specs.Prelude.{◌≡◌, ℕ, All, ◌+◌, ◌/◌, ◌%◌, ◌<◌, ◌≤◌, List, [], ◌∷◌, Option, Some, None, false}
+use Rattle.std.specs.Prelude.{◌≡◌, ℕ, All, ◌+◌, ◌/◌, ◌%◌, ◌<◌, ◌≤◌, ◌||◌, List, [], ◌∷◌, Option, Some, None, Bool, false, true}
 use Rattle.std.specs.Option.{option_map}
 use Rattle.base_data.specs.declared.rdata.RData.{RData}
 use Rattle.base_data.specs.declared.rdata.RData.TheVariants as kinds
@@ -38,19 +38,25 @@ with_high_bits code e = record e { rcode_high = code_number code / 16 % 256 }
 abbrev pub opt_records : ResponseCode → Option Edns → List (Record RData)
 opt_records code edns = as_list (option_map (λ e. edns_record (with_high_bits code e)) edns)
 
--- A record of answers or authorities that fits. If its data is empty, the message is an Update; it is no OPT, SIG or
--- TSIG, which stand among additionals alone.
-pub record FitsPlain (op : OpCode) (r : Record RData) : Type 0 where
-  pub fits : FitsRecord r
-  pub given : HasNeededData op r
-  pub placed : is_additional r ≡ false
+-- Whether a record stands elsewhere than among additionals, or than among answers or authorities: OPT, SIG and TSIG
+-- stand among additionals alone, and EDNS and signatures by themselves after those.
+abbrev pub stands_elsewhere : Bool → Record RData → Bool
+stands_elsewhere true r = is_opt r || is_signature r
+stands_elsewhere false r = is_additional r
 
--- an additional record that fits: EDNS and signatures stand by themselves
-pub record FitsAdditional (op : OpCode) (r : Record RData) : Type 0 where
+-- A record of the additionals, or of another section, that fits. If its data is empty, the message is an Update.
+pub record FitsIn (among_additionals : Bool) (op : OpCode) (r : Record RData) : Type 0 where
   pub fits : FitsRecord r
   pub given : HasNeededData op r
-  pub not_opt : is_opt r ≡ false
-  pub not_signature : is_signature r ≡ false
+  pub placed : stands_elsewhere among_additionals r ≡ false
+
+-- a record of answers or authorities that fits
+abbrev pub FitsPlain : OpCode → Record RData → Type 0
+FitsPlain = FitsIn false
+
+-- an additional record that fits
+abbrev pub FitsAdditional : OpCode → Record RData → Type 0
+FitsAdditional = FitsIn true
 
 -- EDNS that fits: its payload size is read as it is, and its flags have no 16th bit
 pub record FitsEdns (e : Edns) : Type 0 where

@@ -114,7 +114,7 @@ pub fn equal_messages()
 /// What the definition `message_answer` gives of a message that fits the wire is a cut of it under the limit, and is
 /// read as that cut (RFC 1035, 4.1.1; RFC 2181, 9; RFC 6891, 6.1.3).
 pub fn what_is_written_is_a_cut()
-    // `MessageKept` is what its types keep of every message.
+    // `MessageKept` is what its types keep of every message, as `fits_wire` tells (`kept`).
     ensures { (m : MessageValue) (limit : ℕ) (B : List ℕ) → Fits m → MessageKept m
         → limit < 2 ^ 16 → message_answer limit m ≡ Ok B → IsWritten m limit B }
 {}

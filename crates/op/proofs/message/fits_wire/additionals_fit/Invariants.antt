@@ -1,6 +1,0 @@
-use Rattle.std.proofs.Common.{All, take}
-use Rattle.op.specs.Fits.{FitsAdditional}
-use Rattle.op.proofs.message.fits_wire.additionals_fit.Given as goal
-
-abbrev pub invariant-loop-entry : goal.invariant-loop-entry
-invariant-loop-entry l = All (FitsAdditional l.op_code) (take l.entry-index l.records)
