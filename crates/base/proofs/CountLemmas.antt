@@ -18,7 +18,7 @@ use Rattle.base.specs.Pointers.{AreKept, Cache, Followed, IsKept, IsSource, Keep
 use Rattle.base.proofs.SpellingLemmas.{spelled_once}
 use Rattle.std.specs.declared.cmp.Ordering.{Ordering}
 use Rattle.std.specs.declared.cmp.Ordering.TheVariants.{Less, Equal, Greater}
-use Rattle.base.specs.Tracks.{IsBounded, IsCounted}
+use Rattle.base.specs.Tracks.{IsCounted}
 use Rattle.base.specs.Passing.{is_among, inserted, passed}
 use Rattle.base.specs.Spelling.{Spelled, ends, label, pointer}
 use Rattle.base.specs.Reader.{Reader}
@@ -252,9 +252,3 @@ counted_after past f counted =
     let raised = f.jumps (omega (arith, counted.exact, few, f.all)) in
     let len = ap set.len past.kept in
     record { exact = omega (arith, past.jumps, raised, counted.exact, len, f.all); few = omega (arith, few, len) }
-
--- a read of a name is refused
-pub counted_refused : {ts : List ℕ} {old new : Reader} → Followed ts old new → IsBounded old new
-counted_refused f counted =
-    let few = f.few counted.few in
-    omega (arith, f.jumps (omega (arith, counted.exact, few, f.all)), counted.exact, few, f.all)

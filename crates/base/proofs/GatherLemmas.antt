@@ -1,13 +1,13 @@
 -- The loop that gathers the labels of a name.
 use Rattle.std.proofs.Common.{◌≡◌, ℕ, suc, ◌+◌, ◌-◌, ◌<◌, ◌≤◌, List, [], ◌∷◌, ◌++◌, length, take, drop}
-use Rattle.std.proofs.Common.{Option, Some, None, Result, Ok, Err, refl, ap, sym, ◌∙◌, subst, arith, append_assoc, length-append}
+use Rattle.std.proofs.Common.{Option, Some, None, Result, Ok, Err, inl, inr, refl, ap, sym, ◌∙◌, subst, arith, append_assoc, length-append}
 use Rattle.std.specs.Prelude.{nat_lt, nat_le, unwrap_or}
 use Rattle.std.specs.List.{slice_range}
-use Rattle.std.proofs.lemmas.Bool.{cond-true, cond-false, le-leb, lt-leb, lt-ltb}
+use Rattle.std.proofs.lemmas.Bool.{cases_lt, cond-true, cond-false, le-leb, lt-leb, lt-ltb}
 use Rattle.std.proofs.lemmas.List.{append-nil, drop_more}
 use Rattle.base.specs.declared.error.decode_error.DecodeError.{DecodeError}
 use Rattle.base.specs.declared.error.decode_error.DecodeError.TheVariants as faults
-use Rattle.base.specs.Pointers.{IsKept}
+use Rattle.base.specs.Pointers.{AreTooLong, IsKept}
 use Rattle.base.specs.Labels.{IsWire, AreLabels, labels_of, wire_of}
 use Rattle.base.specs.Names.{NamePart, zero_byte, label_of, pointer_to, Labels, part_at, with_label, ending, labels_at}
 use Rattle.base.specs.Reading.{◌>>=◌, Fails}
@@ -70,7 +70,7 @@ module _ {buffer : List ℕ} {first before start at used : ℕ} {bytes : List �
   pub at_long : (n : ℕ) → part_at buffer at ≡ Ok (label_of n) → 255 < used + n + 2 → labels_at buffer first first before ≡ Err faults.BadName
   at_long n is more = fails faults.BadName (labels_at-part buffer start at used (Ok (label_of n)) few is ∙ cond-true (nat_lt 255 (used + n + 2)) _ _ (lt-ltb 255 (used + n + 2) more))
 
-  pub at_forward : (t : ℕ) → part_at buffer at ≡ Ok (pointer_to t) → start ≤ t → labels_at buffer first first before ≡ Err faults.BadName
+  at_forward : (t : ℕ) → part_at buffer at ≡ Ok (pointer_to t) → start ≤ t → labels_at buffer first first before ≡ Err faults.BadName
   at_forward t is above = fails faults.BadName (labels_at-part buffer start at used (Ok (pointer_to t)) few is ∙ cond-true (nat_le start t) _ _ (le-leb start t above))
 
   pub at_root : part_at buffer at ≡ Ok zero_byte → labels_at buffer first first before ≡ Ok (labels_of bytes, unwrap_or end (at + 1))
@@ -87,9 +87,6 @@ label_part bytes i n _ (is_label {n = m} h some small fits) is =
     (subst (ByteAt anywhere bytes i) same h, omega arith, omega arith, omega arith)
 label_part bytes i n _ other is = absurd cc
 
-pub label_fits : (bytes : List ℕ) (i n : ℕ) → part_at bytes i ≡ Ok (label_of n) → i + 1 + n ≤ length bytes
-label_fits bytes i n is = (label_part bytes i n (part_at bytes i) (part_is bytes i) is).3
-
 root_part : (bytes : List ℕ) (i : ℕ) (read : Result NamePart DecodeError) → PartIs bytes i read → read ≡ Ok zero_byte → i + 1 ≤ length bytes
 root_part bytes i _ (is_root h) is = omega (arith, h.inside)
 root_part bytes i _ other is = absurd cc
@@ -97,6 +94,9 @@ root_part bytes i _ other is = absurd cc
 pointer_part : (bytes : List ℕ) (i t : ℕ) (read : Result NamePart DecodeError) → PartIs bytes i read → read ≡ Ok (pointer_to t) → i + 2 ≤ length bytes
 pointer_part bytes i t _ (is_pointer h next high) is = omega (arith, next.inside)
 pointer_part bytes i t _ other is = absurd cc
+
+pub pointer_fits : (bytes : List ℕ) (i t : ℕ) → part_at bytes i ≡ Ok (pointer_to t) → i + 2 ≤ length bytes
+pointer_fits bytes i t is = pointer_part bytes i t (part_at bytes i) (part_is bytes i) is
 
 either_end : (end : Option ℕ) (e len : ℕ) → unwrap_or end 0 ≤ len → e ≤ len → unwrap_or end e ≤ len
 either_end None e len fits inside = inside
@@ -138,7 +138,7 @@ module _ {buffer : List ℕ} {first before start at used : ℕ} {bytes : List �
     few = gathers.few;
     low = omega (arith, gathers.low);
     inside = omega (arith, gathers.low);
-    end_inside = either_end end (at + 2) (length buffer) gathers.end_inside (pointer_part buffer at t (part_at buffer at) (part_is buffer at) is);
+    end_inside = either_end end (at + 2) (length buffer) gathers.end_inside (pointer_fits buffer at t is);
   } where
     earlier : (end : Option ℕ) (read : Labels) → ended_at (Some (unwrap_or end (at + 2))) read ≡ ended_at end (ending (at + 2) read)
     earlier None read = refl
@@ -215,12 +215,20 @@ module _ {buffer : List ℕ} {first before start at used : ℕ} {bytes : List �
         at_end (Some e) = refl
 
   pub kept_end : unwrap_or end (at + 2) ≤ length buffer
-  kept_end = either_end end (at + 2) (length buffer) gathers.end_inside (pointer_part buffer at t (part_at buffer at) (part_is buffer at) is)
+  kept_end = either_end end (at + 2) (length buffer) gathers.end_inside (pointer_fits buffer at t is)
 
-  pub at_kept_long : 255 < used + length items + 1 → labels_at buffer first first before ≡ Err faults.BadName
+  at_kept_long : 255 < used + length items + 1 → labels_at buffer first first before ≡ Err faults.BadName
   at_kept_long long =
       let size = size_of-labels_of items kept.wire in
       goes_there ∙ ap (λ (r : Labels). with_front (labels_of bytes) (ended_at end (ending (at + 2) r))) (labels_too_long used (few gathers) kept.spelled (omega (arith, size))) ∙ at_err end where
         at_err : (end : Option ℕ) → with_front (labels_of bytes) (ended_at end (Err faults.BadName)) ≡ Err faults.BadName
         at_err None = refl
         at_err (Some e) = refl
+
+-- a pointer that may not lead there, or leads to too much, is refused
+pub pointer_refused : {buffer : List ℕ} {first before start at used t : ℕ} {bytes : List ℕ} {end : Option ℕ} → Gathers buffer first before start at used bytes end → part_at buffer at ≡ Ok (pointer_to t)
+    → (t < start → AreTooLong buffer t used) → labels_at buffer first first before ≡ Err faults.BadName
+pointer_refused {start = start} {t = t} gathers is long = elim (cases_lt t start) [
+  | inl below ↦ at_kept_long gathers is below (long below).kept (omega (arith, (long below).long))
+  | inr above ↦ at_forward gathers t is above
+]

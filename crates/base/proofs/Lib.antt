@@ -9,6 +9,7 @@ pub mod Cutting
 pub mod EscapeLemmas
 pub mod FittingLemmas
 pub mod GatherLemmas
+pub mod GatheringLemmas
 pub mod Giving
 pub mod ItemLemmas
 pub mod JoinLemmas

@@ -9,7 +9,7 @@ use Rattle.std.proofs.lemmas.Bool.{cond-false, cond-true, eqb-true, false≢true
 use Rattle.std.proofs.lemmas.List.{append-nil, map_push}
 use Rattle.std.proofs.lemmas.List.Folds.{list_any-append}
 use Rattle.base.specs.declared.error.decode_error.DecodeError.{DecodeError}
-use Rattle.base.specs.declared.name.followed.FollowedPointer.{FollowedPointer}
+use Rattle.base.specs.declared.name.reading.FollowedPointer.{FollowedPointer}
 use Rattle.base.specs.Pointers.{AreKept, PassLater, PassesThese, targets, targets_of}
 use Rattle.base.specs.Names.{NamePart, zero_byte, label_of, pointer_to, part_at}
 use Rattle.base.specs.Passing.{IsClosed, PassesKept, is_among, inserted, passed}
@@ -164,10 +164,6 @@ Lead bytes [] start at = Unit {0}
 Lead bytes (p ∷ ps) start at = Leads bytes p.target (targets ps) start at × Lead bytes ps start at
 
 module _ (bytes : List ℕ) (start at : ℕ) where
-  pub Lead-label : (ps : List FollowedPointer) {n next : ℕ} → part_at bytes at ≡ Ok (label_of n) → next ≡ at + 1 + n → Lead bytes ps start at → Lead bytes ps start next
-  Lead-label [] is next_is lead = tt
-  Lead-label (p ∷ ps) is next_is lead = (Leads-label lead.0 is next_is, Lead-label ps is next_is lead.1)
-
   pub Lead-pointer : (ps : List FollowedPointer) (one : FollowedPointer) → part_at bytes at ≡ Ok (pointer_to one.target) → Lead bytes ps start at → Lead bytes (ps ++ one ∷ []) one.target one.target
   Lead-pointer [] one is lead = (Leads-none bytes one.target, tt)
   Lead-pointer (p ∷ ps) one is lead =

@@ -1,95 +1,26 @@
--- The labels of a name that stands in one piece.
-use Rattle.std.proofs.Common.{◌≡◌, ◌≢◌, ℕ, zero, suc, ◌+◌, ◌-◌, ◌<◌, ◌≤◌, List, [], ◌∷◌, ◌++◌, length, take, drop, get_or}
-use Rattle.std.proofs.Common.{None, Result, Ok, true, refl, ap, sym, ◌∙◌, subst, arith, get_or-take, length-drop, length-take}
+-- The pieces of a name: labels up to a zero byte or a pointer.
+use Rattle.std.proofs.Common.{◌≡◌, ℕ, ◌+◌, ◌-◌, ◌<◌, ◌≤◌, List, [], ◌∷◌, ◌++◌, length, take, drop, get_or, inl, inr}
+use Rattle.std.proofs.Common.{Option, None, Some, Result, Ok, Err, true, refl, ap, sym, ◌∙◌, subst, arith, append_assoc, get_or-take, length-drop, length-take}
 use Rattle.std.proofs.Math.Seq.{take-add}
-use Rattle.std.specs.Prelude.{All}
-use Rattle.std.proofs.lemmas.List.{append-nil, drop-append-le, drop-drop, drop_all, get_or-drop}
+use Rattle.std.proofs.lemmas.Bool.{cases_lt}
+use Rattle.std.proofs.lemmas.List.{append-nil, drop-drop, get_or-drop}
 use Rattle.std.specs.FinSet as set
 use Rattle.std.specs.List.{slice_range}
-use Rattle.base.specs.Pointers.{IsKept, IsLast, OfLast, PassesThese, part}
+use Rattle.base.specs.Pointers.{AreTooLong, IsKept, PassesThese}
+use Rattle.base.specs.Pieces.{IsPiece, IsRefusedIn, LabelsUpTo, RefusedAt, ending_of, no_label, one_more, nothing_there, too_long}
 use Rattle.base.specs.Labels.{IsWire, labels_of}
-use Rattle.base.specs.Names.{NamePart, label_of, labels_at, part_at, pointer_to, zero_byte}
-use Rattle.base.specs.declared.name.followed.FollowedPointer.{FollowedPointer}
+use Rattle.base.specs.Names.{NamePart, label_of, labels_at, part_at}
+use Rattle.base.specs.declared.name.reading.FollowedPointer.{FollowedPointer}
+use Rattle.base.specs.declared.name.reading.NamePiece.{NamePiece}
 use Rattle.base.specs.Spelling.{ByteAt, anywhere}
 use Rattle.base.specs.Passing.{IsClosed}
 use Rattle.base.specs.Reader.{Reader}
 use Rattle.base.specs.declared.error.decode_error.DecodeError.{DecodeError}
-use Rattle.base.specs.declared.name.reading.Part.{Part}
-use Rattle.base.proofs.GatherLemmas.{Gathers, IsWire-append, at_kept, at_root, gathers_label, gathers_none, kept_end, root_inside}
-use Rattle.base.proofs.PassLemmas.{Leads, Leads-kept, Leads-label, Leads-none, Leads-root}
-use Rattle.base.proofs.WalkLemmas.{PartIs, byte, is_past, is_root, is_cut_label, is_label, is_bits, is_cut_pointer, is_pointer, part_is}
+use Rattle.base.specs.declared.error.decode_error.DecodeError.TheVariants as faults
+use Rattle.base.proofs.GatherLemmas.{Gathers, IsWire-append, at_fault, at_kept, at_long, at_root, gathers_label, gathers_none, kept_end, pointer_refused, root_inside}
+use Rattle.base.proofs.PassLemmas.{Lead, Leads, Leads-kept, Leads-label, Leads-none, Leads-root}
+use Rattle.base.proofs.WalkLemmas.{PartIs, is_past, is_root, is_cut_label, is_label, is_bits, is_cut_pointer, is_pointer, part_is}
 use Rattle.base.proofs.WalkLemmas.{part_at-past, part_at-root, part_at-cut_label, part_at-label, part_at-bits, part_at-cut_pointer, part_at-pointer}
-
--- what stands at a place, where something does
-abbrev pub found : Part → Result NamePart DecodeError
-found p = Ok (part p)
-
--- the labels of a piece, as many bytes
-abbrev pub own : Reader → ℕ → List ℕ
-own r used = take used (drop r.index r.bytes)
-
--- So many bytes from the place on are whole labels.
-pub record Walked (r : Reader) (used : ℕ) : Type 0 where
-  pub gathers : Gathers r.bytes r.index 0 r.index (r.index + used) used (own r used) None
-  pub leads : Leads r.bytes r.index [] r.index (r.index + used)
-
--- What was found is the name at the place.
-pub record IsName (r : Reader) (labels : List ℕ) (after : ℕ) : Type 0 where
-  pub read : labels_at r.bytes r.index r.index 0 ≡ Ok (labels_of labels, after)
-  pub wire : IsWire labels
-  pub end : after ≤ length r.bytes
-  pub these : PassesThese r.bytes r.kept r.index []
-
-pub walked_none : (r : Reader) → r.index ≤ length r.bytes → Walked r 0
-walked_none r inside = record {
-  gathers = subst (λ (at : ℕ). Gathers r.bytes r.index 0 r.index at 0 [] None) (omega arith) (gathers_none r.bytes r.index 0 inside (omega arith));
-  leads = subst (λ (at : ℕ). Leads r.bytes r.index [] r.index at) (omega arith) (Leads-none r.bytes r.index);
-}
-
-module _ {r : Reader} {used : ℕ} (walked : Walked r used) where
-  pub walked_label : (n size : ℕ) → part_at r.bytes (r.index + used) ≡ Ok (label_of n) → size ≡ 1 + n → used + size + 1 ≤ 255 → Walked r (used + size)
-  walked_label n size is size_is short =
-      let at = r.index + used in
-      let from : drop used (drop r.index r.bytes) ≡ drop at r.bytes = drop-drop used r.index r.bytes ∙ ap (λ (k : ℕ). drop k r.bytes) (omega arith) in
-      let many : size ≡ at + size - at = omega arith in
-      let more : own r (used + size) ≡ own r used ++ slice_range r.bytes at (at + size) =
-      take-add used size (drop r.index r.bytes) ∙ ap (λ (xs : List ℕ). own r used ++ take size xs) from ∙ ap (λ (k : ℕ). own r used ++ take k (drop at r.bytes)) many in
-      let next : at + size ≡ r.index + (used + size) = omega arith in
-      record {
-        gathers = subst (λ (k : ℕ). Gathers r.bytes r.index 0 r.index k (used + size) (own r (used + size)) None) next (gathers_label walked.gathers n size _ is size_is short more);
-        leads = subst (λ (k : ℕ). Leads r.bytes r.index [] r.index k) next (Leads-label walked.leads is (omega arith));
-      }
-
-  -- a label's length, where its label ends among the first 255 bytes
-  pub walked_length : (near : List ℕ) (m n : ℕ) → near ≡ take m (drop r.index r.bytes) → m ≤ 255 → used < length near → n ≡ get_or near used 0 → n ≢ 0 → n ≤ 63
-      → used + (1 + n) < length near → Walked r (used + (1 + n))
-  walked_length near m n near_is few begins is some small ends =
-      let at = r.index + used in
-      let len : length near ≤ length r.bytes - r.index = omega (arith, ap length near_is, length-take m (drop r.index r.bytes), length-drop r.index r.bytes) in
-      let short : length near ≤ m = omega (arith, ap length near_is, length-take m (drop r.index r.bytes)) in
-      let there : get_or near used 0 ≡ get_or r.bytes at 0 =
-      ap (λ (xs : List ℕ). get_or xs used 0) near_is ∙ get_or-take m (drop r.index r.bytes) used 0 (omega (arith, begins, short)) ∙ get_or-drop r.index r.bytes used 0 in
-      let here : ByteAt anywhere r.bytes at n = byte r.bytes at n (omega (arith, begins, len)) (sym (is ∙ there)) in
-      walked_label n (1 + n) (part_at-label r.bytes at n here (grind (arith, some)) small (omega (arith, ends, len))) refl (omega (arith, ends, short, few))
-
-  pub name_root : part_at r.bytes (r.index + used) ≡ Ok zero_byte → IsName r (own r used ++ []) (r.index + used + 1)
-  name_root is =
-      let alone : own r used ≡ own r used ++ [] = sym (append-nil (own r used)) in
-      record {
-        read = at_root walked.gathers is ∙ ap (λ (xs : List ℕ). Ok (labels_of xs, r.index + used + 1)) alone;
-        wire = subst IsWire alone walked.gathers.wire;
-        end = root_inside walked.gathers is;
-        these = Leads-root walked.leads r.kept is;
-      }
-
-  pub name_kept : {t : ℕ} (items : List ℕ) → part_at r.bytes (r.index + used) ≡ Ok (pointer_to t) → t < r.index → IsKept r.bytes t items → used + length items + 1 ≤ 255
-      → set.contains r.kept t ≡ true → IsClosed r.bytes r.kept → IsName r (own r used ++ items) (r.index + used + 2)
-  name_kept items is below kept short has closed = record {
-    read = at_kept walked.gathers is below kept short;
-    wire = IsWire-append (own r used) items walked.gathers.wire kept.wire (omega (arith, short, walked.gathers.len));
-    end = kept_end walked.gathers is below kept;
-    these = Leads-kept walked.leads r.kept is has closed;
-  }
 
 -- ---- what stands at a place of a piece stands in the buffer
 
@@ -118,37 +49,179 @@ pub part_is_there : (bytes piece : List ℕ) (s k : ℕ) (part : Result NamePart
 part_is_there bytes piece s k part same is =
     part_in_buffer bytes s k (part_at (drop s bytes) k) (part_is (drop s bytes) k) ∙ ap (λ (xs : List ℕ). part_at xs k) (sym same) ∙ is
 
--- the same bytes of a piece and of the buffer
-pub range_is_there : (bytes piece : List ℕ) (s i j : ℕ) → piece ≡ drop s bytes → slice_range piece i j ≡ slice_range bytes (s + i) (s + j)
-range_is_there bytes piece s i j same =
-    let len : j - i ≡ s + j - (s + i) = omega arith in
-    rw (same, drop-drop i s bytes, len)
+-- ---- the labels of a piece, one after another
 
--- ---- the labels that the last pointer led to
+-- what holds at the front, and after a label where it holds before that, holds after them all
+over_labels : {bytes : List ℕ} {j : ℕ} (P : ℕ → Type 0) → LabelsUpTo bytes j → P 0
+    → ((i n : ℕ) → i + (1 + n) ≤ j → part_at bytes i ≡ Ok (label_of n) → P i → P (i + (1 + n))) → P j
+over_labels P no_label first step = first
+over_labels P (one_more {i = i} {n = n} labels is) first step =
+    step i n (omega arith) is
+    (over_labels P labels first (λ k m inside part. step k m (omega (arith, inside)) part))
 
-pub last_more : (ps : List FollowedPointer) (lent labels more : List ℕ) → All (λ p. p.from ≤ length labels) ps → IsLast lent labels ps → IsLast (lent ++ more) (labels ++ more) ps
-last_more [] lent labels more inside is = tt
-last_more (p ∷ []) lent labels more inside is = ap (λ (xs : List ℕ). xs ++ more) is ∙ sym (drop-append-le p.from labels more (inside 0 p (omega arith)))
-last_more (p ∷ q ∷ ps) lent labels more inside is = last_more (q ∷ ps) lent labels more (λ k d small. inside (suc k) d (omega (arith, small))) is
+module _ (buffer : List ℕ) (s : ℕ) {len : ℕ} (labels : LabelsUpTo (drop s buffer) len) where
+  abbrev piece : List ℕ
+  piece = drop s buffer
 
-pub last_pushed : (ps : List FollowedPointer) (p : FollowedPointer) (labels : List ℕ) → p.from ≡ length labels → IsLast [] labels (ps ++ p ∷ [])
-last_pushed [] p labels from = sym (drop_all p.from labels (omega (arith, from)))
-last_pushed (q ∷ []) p labels from = last_pushed [] p labels from
-last_pushed (q ∷ r ∷ ps) p labels from = last_pushed (r ∷ ps) p labels from
+  there : (k : ℕ) (part : Result NamePart DecodeError) → part_at (drop s buffer) k ≡ part → part_at buffer (s + k) ≡ part
+  there k part is = part_is_there buffer (drop s buffer) s k part refl is
 
-pub of_last : {Is : List ℕ → Type 0} (ps : List FollowedPointer) (last labels : List ℕ) → IsLast last labels ps → ((xs : List ℕ) → last ≡ xs → Is xs) → OfLast Is labels ps
-of_last [] last labels is gives = tt
-of_last (p ∷ []) last labels is gives = gives (drop p.from labels) is
-of_last (p ∷ q ∷ ps) last labels is gives = of_last (q ∷ ps) last labels is gives
+  pub gathers_piece : {first before used : ℕ} {bytes : List ℕ} {end : Option ℕ} → Gathers buffer first before s s used bytes end → used + len ≤ 254
+      → Gathers buffer first before s (s + len) (used + len) (bytes ++ take len (drop s buffer)) end
+  gathers_piece {first} {before} {used} {bytes} {end} g short =
+      let So : ℕ → Type 0 = λ k. Gathers buffer first before s (s + k) (used + k) (bytes ++ take k piece) end in
+      let here : s ≡ s + 0 = omega arith in
+      let same : used ≡ used + 0 = omega arith in
+      over_labels So labels
+      (subst (λ (k : ℕ). Gathers buffer first before s k (used + 0) (bytes ++ []) end) here
+      (subst (λ (u : ℕ). Gathers buffer first before s s u (bytes ++ []) end) same
+      (subst (λ (xs : List ℕ). Gathers buffer first before s s used xs end) (sym (append-nil bytes)) g)))
+      (λ i n inside is so.
+      let at = s + i in
+      let size = 1 + n in
+      let from : drop i piece ≡ drop at buffer = drop-drop i s buffer ∙ ap (λ (k : ℕ). drop k buffer) (omega arith) in
+      let many : size ≡ at + size - at = omega arith in
+      let more : take (i + size) piece ≡ take i piece ++ slice_range buffer at (at + size) =
+      take-add i size piece ∙ ap (λ (xs : List ℕ). take i piece ++ take size xs) from ∙ ap (λ (k : ℕ). take i piece ++ take k (drop at buffer)) many in
+      let all : bytes ++ take (i + size) piece ≡ (bytes ++ take i piece) ++ slice_range buffer at (at + size) =
+      ap (λ (xs : List ℕ). bytes ++ xs) more ∙ sym (append_assoc bytes (take i piece) (slice_range buffer at (at + size))) in
+      let next : at + size ≡ s + (i + size) = omega arith in
+      let sum : used + i + size ≡ used + (i + size) = omega arith in
+      subst (λ (k : ℕ). Gathers buffer first before s k (used + (i + size)) (bytes ++ take (i + size) piece) end) next
+      (subst (λ (u : ℕ). Gathers buffer first before s (at + size) u (bytes ++ take (i + size) piece) end) sum
+      (gathers_label so n size (bytes ++ take (i + size) piece) (there i (Ok (label_of n)) is) refl (omega (arith, inside, short)) all)))
 
-pub of_any : (ps : List FollowedPointer) (labels : List ℕ) → OfLast (λ _. Unit {0}) labels ps
-of_any [] labels = tt
-of_any (p ∷ []) labels = tt
-of_any (p ∷ q ∷ ps) labels = of_any (q ∷ ps) labels
+  pub leads_piece : {first : ℕ} {ts : List ℕ} → Leads buffer first ts s s → Leads buffer first ts s (s + len)
+  leads_piece {first} {ts} leads =
+      let here : s ≡ s + 0 = omega arith in
+      over_labels (λ k. Leads buffer first ts s (s + k)) labels (subst (λ (k : ℕ). Leads buffer first ts s k) here leads)
+      (λ i n inside is so. Leads-label so (there i (Ok (label_of n)) is) (omega arith))
 
-pub last_at : (Is : List ℕ → Type 0) (ps : List FollowedPointer) (labels : List ℕ) (i : ℕ) (d : FollowedPointer) → i + 1 ≡ length ps → OfLast Is labels ps → Is (drop (get_or ps i d).from labels)
-last_at Is [] labels i d len is = absurd (omega (arith, len))
-last_at Is (p ∷ []) labels zero d len is = is
-last_at Is (p ∷ []) labels (suc i) d len is = absurd (omega (arith, len))
-last_at Is (p ∷ q ∷ ps) labels zero d len is = absurd (omega (arith, len))
-last_at Is (p ∷ q ∷ ps) labels (suc i) d len is = last_at Is (q ∷ ps) labels i d (omega (arith, len)) is
+  pub lead_piece : (ps : List FollowedPointer) → Lead buffer ps s s → Lead buffer ps s (s + len)
+  lead_piece [] lead = tt
+  lead_piece (p ∷ ps) lead = (leads_piece lead.0, lead_piece ps lead.1)
+
+-- what ends a piece stands in the buffer
+pub piece_end : (buffer : List ℕ) (s : ℕ) {bytes : List ℕ} {before : ℕ} {piece : NamePiece} → bytes ≡ drop s buffer → IsPiece bytes before piece → part_at buffer (s + piece.len) ≡ Ok (ending_of piece.pointer)
+piece_end buffer s {bytes} {piece = of} same p = part_is_there buffer bytes s of.len _ same p.end
+
+pub piece_fits : {bytes : List ℕ} {before : ℕ} {piece : NamePiece} → IsPiece bytes before piece → piece.len ≤ length bytes
+piece_fits {bytes} {piece = of} p = elim (cases_lt (length bytes) of.len) [
+  | inl past ↦ absurd (no_part (sym (part_at-past bytes of.len (omega (arith, past))) ∙ p.end))
+  | inr inside ↦ inside
+] where
+  no_part : {part : NamePart} → ◌≡◌ {A = Result NamePart DecodeError} (Err faults.InsufficientBytes) (Ok part) → ⊥
+  no_part same = absurd cc
+
+-- a name is refused where one of its pieces is
+pub piece_refused : {buffer piece : List ℕ} {first before s used : ℕ} {bytes : List ℕ} {end : Option ℕ} {e : DecodeError} → Gathers buffer first before s s used bytes end
+    → piece ≡ drop s buffer → IsRefusedIn piece used e → labels_at buffer first first before ≡ Err e
+piece_refused {buffer} {piece} {first} {before} {s} {used} {bytes} {end} {e} g same refused = go e r.refused where
+  r : IsRefusedIn (drop s buffer) used e
+  r = subst (λ (xs : List ℕ). IsRefusedIn xs used e) same refused
+
+  there : (part : Result NamePart DecodeError) → part_at (drop s buffer) r.at ≡ part → part_at buffer (s + r.at) ≡ part
+  there part is = part_is_there buffer (drop s buffer) s r.at part refl is
+
+  go : (f : DecodeError) → RefusedAt (drop s buffer) used r.at f → labels_at buffer first first before ≡ Err f
+  go f (nothing_there is) = at_fault (gathers_piece buffer s r.labels g r.short) f (there (Err f) is)
+  go f (too_long {n = n} is long) = at_long (gathers_piece buffer s r.labels g r.short) n (there (Ok (label_of n)) is) (omega (arith, long))
+
+-- ---- the piece that is read at the front of bytes, over those of them that a name has at most
+
+-- The bytes are walked up to here, by the length of each label.
+pub data WalkedTo (near : List ℕ) : ℕ → Type 0 where
+  at_front : WalkedTo near 0
+  past : {i n : ℕ} → WalkedTo near i → ByteAt anywhere near i n → 1 ≤ n → n ≤ 63 → WalkedTo near (i + (1 + n))
+
+module _ (bytes : List ℕ) {near : List ℕ} (m : ℕ) (near_is : near ≡ take m bytes) where
+  pub near_fits : (length near ≤ m) × (length near ≤ length bytes)
+  near_fits = (omega (arith, ap length near_is, length-take m bytes), omega (arith, ap length near_is, length-take m bytes))
+
+  -- a byte among the near ones is one of all
+  pub in_all : {i b : ℕ} → ByteAt anywhere near i b → ByteAt anywhere bytes i b
+  in_all {i} {b} h = record {
+    inside = omega (arith, h.inside, near_fits.1);
+    is = sym (ap (λ (xs : List ℕ). get_or xs i 0) near_is ∙ get_or-take m bytes i 0 (omega (arith, h.inside, near_fits.0))) ∙ h.is;
+    seen = tt;
+  }
+
+  pub walked_labels : {i : ℕ} → WalkedTo near i → i ≤ length bytes → LabelsUpTo bytes i
+  walked_labels at_front inside = no_label
+  walked_labels (past {i = i} {n = n} walked h some small) inside =
+      one_more (walked_labels walked (omega (arith, inside))) (part_at-label bytes i n (in_all h) some small (omega (arith, inside)))
+
+  -- the bytes end before the piece does
+  pub walked_cut : {i : ℕ} (before : ℕ) → m + before ≤ 255 → WalkedTo near i → length bytes < i → IsRefusedIn bytes before faults.InsufficientBytes
+  walked_cut before few at_front cut = absurd (omega (arith, cut))
+  walked_cut before few (past {i = i} {n = n} walked h some small) cut = record {
+    at = i;
+    labels = walked_labels walked (omega (arith, (in_all h).inside));
+    short = omega (arith, h.inside, near_fits.0, few);
+    refused = nothing_there (part_at-cut_label bytes i n (in_all h) some small (omega (arith, cut)));
+  }
+
+  pub walked_off : {i : ℕ} (before : ℕ) → WalkedTo near i → i ≡ length bytes → before + i ≤ 254 → IsRefusedIn bytes before faults.InsufficientBytes
+  walked_off {i} before walked off short = record {
+    at = i;
+    labels = walked_labels walked (omega (arith, off));
+    short = short;
+    refused = nothing_there (part_at-past bytes i (omega (arith, off)));
+  }
+
+  -- the name gets too long
+  pub walked_long : {i : ℕ} (before : ℕ) → m + before ≤ 255 → before ≤ 254 → WalkedTo near i → i ≤ length bytes → 255 ≤ before + i → IsRefusedIn bytes before faults.BadName
+  walked_long before few small_before at_front inside long = absurd (omega (arith, small_before, long))
+  walked_long before few small_before (past {i = i} {n = n} walked h some small) inside long = record {
+    at = i;
+    labels = walked_labels walked (omega (arith, (in_all h).inside));
+    short = omega (arith, h.inside, near_fits.0, few);
+    refused = too_long (part_at-label bytes i n (in_all h) some small (omega (arith, inside))) (omega (arith, long));
+  }
+
+-- ---- a name whose own piece is all that is read
+
+-- What was found is the name at the place.
+pub record IsName (r : Reader) (labels : List ℕ) (after : ℕ) : Type 0 where
+  pub read : labels_at r.bytes r.index r.index 0 ≡ Ok (labels_of labels, after)
+  pub wire : IsWire labels
+  pub end : after ≤ length r.bytes
+  pub these : PassesThese r.bytes r.kept r.index []
+
+module _ (r : Reader) {front : List ℕ} {piece : NamePiece} (inside : r.index ≤ length r.bytes) (same : front ≡ drop r.index r.bytes) (front_is : IsPiece front 0 piece) where
+  is : IsPiece (drop r.index r.bytes) 0 piece
+  is = subst (λ (xs : List ℕ). IsPiece xs 0 piece) same front_is
+
+  abbrev own : List ℕ
+  own = take piece.len (drop r.index r.bytes)
+
+  gathers : Gathers r.bytes r.index 0 r.index (r.index + piece.len) (0 + piece.len) own None
+  gathers = gathers_piece r.bytes r.index is.labels (gathers_none r.bytes r.index 0 inside (omega arith)) is.short
+
+  leads : Leads r.bytes r.index [] r.index (r.index + piece.len)
+  leads = leads_piece r.bytes r.index is.labels (Leads-none r.bytes r.index)
+
+  part : {end : NamePart} → ending_of piece.pointer ≡ end → part_at r.bytes (r.index + piece.len) ≡ Ok end
+  part end_is = piece_end r.bytes r.index refl is ∙ ap Ok end_is
+
+  pub name_root : piece.pointer ≡ None → IsName r (take piece.len (drop r.index r.bytes)) (r.index + piece.len + 1)
+  name_root none = record {
+    read = at_root gathers (part (ap ending_of none));
+    wire = gathers.wire;
+    end = root_inside gathers (part (ap ending_of none));
+    these = Leads-root leads r.kept (part (ap ending_of none));
+  }
+
+  pub name_kept : {t : ℕ} (items : List ℕ) → piece.pointer ≡ Some t → t < r.index → IsKept r.bytes t items → piece.len + length items ≤ 254
+      → set.contains r.kept t ≡ true → IsClosed r.bytes r.kept → IsName r (take piece.len (drop r.index r.bytes) ++ items) (r.index + piece.len + 2)
+  name_kept items some below kept short has closed = record {
+    read = at_kept gathers (part (ap ending_of some)) below kept (omega (arith, short));
+    wire = IsWire-append own items gathers.wire kept.wire (omega (arith, short, gathers.len));
+    end = kept_end gathers (part (ap ending_of some)) below kept;
+    these = Leads-kept leads r.kept (part (ap ending_of some)) has closed;
+  }
+
+  pub pointed_nowhere : {t : ℕ} → piece.pointer ≡ Some t → (t < r.index → AreTooLong r.bytes t piece.len) → labels_at r.bytes r.index r.index 0 ≡ Err faults.BadName
+  pointed_nowhere {t} some long =
+      let all : piece.len ≡ 0 + piece.len = omega arith in
+      pointer_refused gathers (part (ap ending_of some)) (λ below. subst (AreTooLong r.bytes t) all (long below))

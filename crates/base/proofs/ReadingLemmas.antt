@@ -161,6 +161,14 @@ name_err : (bytes : List ℕ) (i : ℕ) (read : Labels) → IsRight bytes i i 0 
 name_err bytes i (Ok r) right f is = absurd cc
 name_err bytes i (Err g) right f is = let same : g ≡ f = cc in subst (IsFaulty bytes i i 0) same right
 
+pub name_from : (bytes : List ℕ) (i e : ℕ) (labels : List (List ℕ)) → labels_at bytes i i 0 ≡ Ok (labels, e) → name_at bytes i ≡ Ok (record { labels = labels; absolute = true }, e)
+unfolding name_at
+name_from bytes i e labels is = ap (λ (read : Labels). read >>= λ r. Ok (named r)) is
+
+pub name_refused : (bytes : List ℕ) (i : ℕ) (f : DecodeError) → labels_at bytes i i 0 ≡ Err f → name_at bytes i ≡ Err f
+unfolding name_at
+name_refused bytes i f is = ap (λ (read : Labels). read >>= λ r. Ok (named r)) is
+
 pub name_is : (bytes : List ℕ) (i : ℕ) (name : NameValue) (e : ℕ) → name_at bytes i ≡ Ok (name, e) → IsNameAt bytes i name e
 unfolding name_at
 name_is bytes i name e is = name_ok bytes i (labels_at bytes i i 0) (labels_right bytes i i 0 (omega arith)) name e is

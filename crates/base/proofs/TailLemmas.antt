@@ -1,11 +1,12 @@
 -- The labels after each pointer that was followed.
-use Rattle.std.proofs.Common.{◌≡◌, ℕ, ◌+◌, ◌<◌, ◌≤◌, List, ◌++◌, length, drop, Option, None, Ok, ap, sym, ◌∙◌, subst, arith, length-append}
-use Rattle.std.specs.List.{slice_range}
+use Rattle.std.proofs.Common.{◌≡◌, ℕ, ◌+◌, ◌<◌, ◌≤◌, List, ◌++◌, length, take, drop, Option, None, Ok, ap, sym, ◌∙◌, subst, arith, length-append}
 use Rattle.std.proofs.lemmas.List.{drop-append-le, drop_all}
-use Rattle.base.specs.declared.name.followed.FollowedPointer.{FollowedPointer}
+use Rattle.base.specs.declared.name.reading.FollowedPointer.{FollowedPointer}
 use Rattle.base.specs.Pointers.{IsKept}
-use Rattle.base.specs.Names.{zero_byte, label_of, pointer_to, part_at}
-use Rattle.base.proofs.GatherLemmas.{Gathers, gathers_none, gathers_label, gathers_pointer, at_root, at_kept, spelled_is, IsWire-append}
+use Rattle.base.specs.Names.{zero_byte, pointer_to, part_at}
+use Rattle.base.specs.Pieces.{LabelsUpTo}
+use Rattle.base.proofs.PieceLemmas.{gathers_piece}
+use Rattle.base.proofs.GatherLemmas.{Gathers, gathers_none, gathers_pointer, at_root, at_kept, spelled_is, IsWire-append}
 
 -- what was gathered since a pointer, before what is read from at on, are the labels after it
 pub record Tail (buffer : List ℕ) (start at used : ℕ) (bytes : List ℕ) (p : FollowedPointer) : Type 0 where
@@ -25,6 +26,18 @@ Tail-new buffer t used bytes inside near len few = record {
   gathers = subst (λ (xs : List ℕ). Gathers buffer t used t t used xs None) (sym (drop_all used bytes (omega arith))) (gathers_none buffer t used inside few);
 }
 
+pub Tail-piece : {buffer : List ℕ} {start used len : ℕ} {bytes : List ℕ} {p : FollowedPointer} → LabelsUpTo (drop start buffer) len → used + len ≤ 254 → Tail buffer start start used bytes p
+    → Tail buffer start (start + len) (used + len) (bytes ++ take len (drop start buffer)) p
+Tail-piece {buffer} {start} {used} {len} {bytes} {p} labels short tail =
+    let more = take len (drop start buffer) in
+    record {
+      end = tail.end;
+      inside = omega (arith, tail.inside, length-append bytes more);
+      near = tail.near;
+      gathers = subst (λ (xs : List ℕ). Gathers buffer p.target p.from start (start + len) (used + len) xs tail.end) (sym (drop-append-le p.from bytes more tail.inside))
+          (gathers_piece buffer start labels tail.gathers short);
+    }
+
 module _ {buffer : List ℕ} {start at used : ℕ} {bytes : List ℕ} {p : FollowedPointer} where
   pub Tail-pointer : {t : ℕ} → part_at buffer at ≡ Ok (pointer_to t) → t < start → Tail buffer start at used bytes p → Tail buffer t t used bytes p
   Tail-pointer {t} is below tail = record {
@@ -32,16 +45,6 @@ module _ {buffer : List ℕ} {start at used : ℕ} {bytes : List ℕ} {p : Follo
     inside = tail.inside;
     near = tail.near;
     gathers = gathers_pointer tail.gathers t is below;
-  }
-
-  pub Tail-label : {n size : ℕ} {next : List ℕ} → part_at buffer at ≡ Ok (label_of n) → size ≡ 1 + n → used + size + 1 ≤ 255 → length bytes ≡ used → next ≡ bytes ++ slice_range buffer at (at + size)
-      → Tail buffer start at used bytes p → Tail buffer start (at + size) (used + size) next p
-  Tail-label {n} {size} {next} is size_is short len next_is tail = record {
-    end = tail.end;
-    inside = omega (arith, tail.inside, ap length next_is, length-append bytes (slice_range buffer at (at + size)));
-    near = tail.near;
-    gathers = gathers_label tail.gathers n size (drop p.from next) is size_is short
-        (ap (drop p.from) next_is ∙ drop-append-le p.from bytes (slice_range buffer at (at + size)) tail.inside);
   }
 
   pub Tail-root : part_at buffer at ≡ Ok zero_byte → length bytes ≡ used → Tail buffer start at used bytes p → Ends buffer bytes p

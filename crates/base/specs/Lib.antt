@@ -18,6 +18,7 @@ pub mod Names
 pub mod StoredLabels
 pub mod ParseError
 pub mod Passing
+pub mod Pieces
 pub mod PointerLemmas
 pub mod Pointers
 pub mod ProtoError

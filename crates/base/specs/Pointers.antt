@@ -1,25 +1,19 @@
 -- The labels that are kept at the offsets that compression pointers led to.
 use Rattle.base.specs.declared.limits.TheConstants.{MAX_LABELS, POINTER_LIMIT}
-use Rattle.std.specs.Prelude.{◌≡◌, ◌≢◌, ℕ, zero, suc, true, false, ◌+◌, ◌-◌, ◌^◌, ◌<◌, ◌≤◌, ◌==◌, List}
-use Rattle.std.specs.Prelude.{[], ◌∷◌, ◌++◌, All, Ok, Option, Some, None, if◌then◌else◌, drop, get_or, length, map, option_map, take}
+use Rattle.std.specs.Prelude.{◌≡◌, ◌≢◌, ℕ, zero, suc, true, ◌+◌, ◌-◌, ◌^◌, ◌<◌, ◌≤◌, ◌==◌, List}
+use Rattle.std.specs.Prelude.{[], ◌∷◌, ◌++◌, All, Option, Some, None, if◌then◌else◌, drop, get_or, length, map, option_map, take}
 use Rattle.std.specs.Borrow.{Bor}
 use Rattle.std.specs.FinMap as labels_by
 use Rattle.std.specs.FinSet as set
 use Rattle.std.specs.List.{slice_range}
 use Rattle.std.specs.Ordering.{nat_cmp}
-use Rattle.base.specs.declared.name.followed.FollowedPointer.{FollowedPointer}
-use Rattle.base.specs.declared.name.reading.InPlace.{InPlace}
-use Rattle.base.specs.declared.name.reading.Look.{Look}
-use Rattle.base.specs.declared.name.reading.Look.TheVariants as looks
-use Rattle.base.specs.declared.name.reading.Part.{Part}
-use Rattle.base.specs.declared.name.reading.Part.TheVariants.{Root, Label, Pointer}
+use Rattle.base.specs.declared.name.reading.FollowedPointer.{FollowedPointer}
 use Rattle.base.specs.declared.wire.pointer_cache.Source.{Source}
 use Rattle.base.specs.declared.wire.pointer_cache.Source.TheVariants.{Nowhere, Message, Kept}
 use Rattle.base.specs.declared.wire.pointer_cache.TargetLabels.{TargetLabels}
 use Rattle.base.specs.declared.wire.pointer_cache.TargetLabels.TheVariants.{Lent, Copied}
 use Rattle.base.specs.declared.wire.pointer_cache.Target.{Target}
 use Rattle.base.specs.Labels.{IsWire, labels_of}
-use Rattle.base.specs.Names.{NamePart, part_at, zero_byte, label_of, pointer_to}
 use Rattle.base.specs.Passing.{AreIn, PassesKept, is_among, inserted, passed}
 use Rattle.base.specs.Reader.{Reader}
 use Rattle.base.specs.Spelling.{Spelled}
@@ -143,10 +137,6 @@ OfLast Is labels [] = Unit {0}
 OfLast Is labels (p ∷ []) = Is (drop p.from labels)
 OfLast Is labels (p ∷ q ∷ ps) = OfLast Is labels (q ∷ ps)
 
--- these are the labels that the last of these pointers led to
-abbrev pub IsLast : List ℕ → List ℕ → List FollowedPointer → Type 0
-IsLast last labels ps = OfLast (λ xs. last ≡ xs) labels ps
-
 -- After each pointer kept offsets are passed, and those of the pointers that were followed later.
 abbrev pub PassLater : List ℕ → set.FinSet nat_cmp → List FollowedPointer → Type 0
 PassLater bytes kept [] = Unit {0}
@@ -165,38 +155,3 @@ pub record Followed (ts : List ℕ) (old new : Reader) : Type 0 where
   pub jumps : old.jumps + length ts < 2 ^ 64 → new.jumps ≡ old.jumps + length ts
   pub all : set.len (inserted ts old.kept) ≡ set.len old.kept + length ts
   pub few : set.len old.kept ≤ POINTER_LIMIT → set.len (inserted ts old.kept) ≤ POINTER_LIMIT
-
--- A name is a pointer alone, to a target that isn't kept; what is kept can be named by a pointer.
-pub record IsBare (reader : Reader) (t : ℕ) : Type 0 where
-  pub is : part_at reader.bytes reader.index ≡ Ok (pointer_to t)
-  pub near : t < POINTER_LIMIT
-  pub below : t < reader.index
-  pub absent : set.contains reader.kept t ≡ false
-  pub all_near : (q : ℕ) → set.contains reader.kept q ≡ true → q < POINTER_LIMIT
-
--- a statement of the name that a first look finds in its place
-abbrev pub IfInPlace : Look → (InPlace → Type 0) → Type 0
-IfInPlace (looks.InPlace place) Is = Is place
-IfInPlace _ Is = Unit {0}
-
--- a statement of the target of the pointer alone that a first look finds
-abbrev pub IfPointer : Look → (ℕ → Type 0) → Type 0
-IfPointer (looks.Pointer t) Is = Is t
-IfPointer _ Is = Unit {0}
-
--- the first, if there is one, and the others
-abbrev pub all_of : Option FollowedPointer → List FollowedPointer → List FollowedPointer
-all_of None others = others
-all_of (Some p) others = p ∷ others
-
--- there are no others without a first
-abbrev pub HasFirst : Option FollowedPointer → List FollowedPointer → Type 0
-HasFirst first others = first ≡ None → others ≡ []
-
--- ---- what stands at a place of a name
-
--- the part of a name that it is
-abbrev pub part : Part → NamePart
-part Root = zero_byte
-part (Label len) = label_of len
-part (Pointer target) = pointer_to target

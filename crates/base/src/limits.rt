@@ -18,6 +18,9 @@ pub const MAX_STRING: usize = 255;
 /// The bytes of the longest data of a record or of an option (RFC 1035, 3.2.1; RFC 6891, 6.1.2).
 pub const MAX_DATA: usize = 65535;
 
+/// The least first byte of a pointer: its top bits are 11 (RFC 1035, 4.1.4).
+pub const POINTER_BITS: u8 = 192;
+
 /// The first place of a message that no pointer leads to: one has 14 bits for it (RFC 1035, 4.1.4).
 pub const POINTER_LIMIT: usize = 16384;
 

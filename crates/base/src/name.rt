@@ -7,7 +7,6 @@ ghost use Rattle.base.specs.Labels.{AreLabels, IsLabelRun, plain_len, wire_of, l
 
 pub mod compare;
 pub mod display;
-mod followed;
 pub mod laws;
 pub mod name_of;
 pub mod parse;

@@ -1,11 +1,12 @@
 //! Reads a name (RFC 1035, 4.1.4).
 
 ghost use Rattle.base.specs.declared.limits.TheConstants.{MAX_LABELS, POINTER_LIMIT};
-ghost use Rattle.std.specs.Prelude.{◌≡◌, ℕ, ◌<◌, ◌≤◌, ◌+◌, ◌++◌, ◌∷◌, [], Ok, Err, length, take, slice_range, IfErr, IfOk, IfSome, OnOk, OnErr, IsOkUnless, MatchResult, is_some, true};
+ghost use Rattle.std.specs.Prelude.{◌≡◌, ℕ, ◌<◌, ◌≤◌, ◌+◌, ◌++◌, ◌∷◌, [], Ok, Err, length, take, drop, IfErr, IfOk, IfSome, OnOk, OnErr, IsOkUnless, MatchResult, is_some, true};
 ghost use Rattle.std.specs.FinSet as set;
 ghost use Rattle.base.specs.Labels.{IsWire, labels_of};
-ghost use Rattle.base.specs.Names.{part_at, pointer_to, labels_at, name_at};
-ghost use Rattle.base.specs.Pointers.{AreSpelled, AreTooLong, Followed, IfInPlace, IfPointer, IsBare, IsKept, IsSource, KeepsAt, OfLast, PassLater, PassesThese, part, targets};
+ghost use Rattle.base.specs.Names.{labels_at, name_at};
+ghost use Rattle.base.specs.Pieces.{IsPiece, IsPointed, IsRefusedIn};
+ghost use Rattle.base.specs.Pointers.{AreSpelled, AreTooLong, Followed, IsKept, IsSource, KeepsAt, OfLast, PassLater, PassesThese, targets};
 ghost use Rattle.base.specs.Passing.{IsClosed, inserted, passed};
 ghost use Rattle.base.specs.Reading.{Fails, Reads};
 ghost use Rattle.base.specs.Spelling.{Spelled};
@@ -13,85 +14,94 @@ ghost use Rattle.base.specs.Tracks.{Tracks};
 
 use crate::error::DecodeError;
 use crate::labels::Labels;
-use crate::limits::{MAX_LABEL, MAX_LABELS, MAX_NAME};
+use crate::limits::{MAX_LABEL, MAX_LABELS, MAX_NAME, POINTER_BITS};
 use crate::name::Name;
-use crate::name::followed::{FollowedPointer, FollowedPointers};
 use crate::wire::pointer_cache::Source;
 use crate::wire::{BinDecodable, BinDecoder};
 
-/// How many bytes are copied at once for a short label.
+/// How many bytes are copied at once for few labels.
 const SHORT: usize = 16;
 
-/// How many bytes are copied at once for another label, which has no more.
+/// How many bytes are copied at once for more of them.
 const LONG: usize = 1 + MAX_LABEL;
 
-/// What stands at a place of a name.
-#[derive(Drop)]
-enum Part {
-    /// The zero byte that ends a name.
-    Root,
-    /// A label of as many bytes.
-    Label(u8),
-    /// A pointer to an offset.
-    Pointer(u16),
+/// A piece of a name: labels up to a zero byte or a pointer (RFC 1035, 4.1.4).
+#[derive(Clone, Copy)]
+struct NamePiece {
+    /// How many bytes its labels are, each with its length before it.
+    len: usize,
+    /// The offset that its pointer leads to, none where a zero byte ends it.
+    pointer: Option<u16>,
 }
 
-/// Reads what stands at a place of a name, or why nothing can.
-#[tactic(auto, unfolding(crate::specs::Names::part_at))]
-fn read_part(buffer: &[u8], at: usize) -> Result<Part, DecodeError>
-    ensures value { MatchResult result (λ p. part_at buffer.now at ≡ Ok (part p))
-        (λ e. part_at buffer.now at ≡ Err e) }
+/// A pointer that was followed: the offset that it led to, and how many bytes of labels stand before those there.
+#[derive(Clone, Copy)]
+struct FollowedPointer {
+    target: u16,
+    from: usize,
+}
+
+/// Reads the piece at the front of these bytes, where the labels before it took as many.
+///
+/// # Errors
+///
+/// `InsufficientBytes` where the bytes end inside the piece; `BadName` where the top bits of a byte are 01 or 10, and
+/// where the name would have more than 255 bytes (RFC 1035, 2.3.4).
+fn read_piece(bytes: &[u8], before: usize) -> Result<NamePiece, DecodeError>
+    requires { before ≤ MAX_LABELS }
+    ensures piece { MatchResult result (λ p. IsPiece bytes.now before p)
+        (λ e. IsRefusedIn bytes.now before e) }
     // A pointer has 14 bits for its offset, which is therefore below 16,384.
-    ensures near { (t : ℕ) → part_at buffer.now at ≡ Ok (pointer_to t) → t < POINTER_LIMIT }
+    ensures near { IfOk result (λ p. IfSome p.pointer (λ t. t < POINTER_LIMIT)) }
 {
-    if at >= buffer.len() {
-        return Err(DecodeError::InsufficientBytes);
+    // A name that ends within so many bytes isn't too long, so that its length isn't looked at after each label.
+    let near = &bytes[..bytes.len().min(MAX_NAME - before)];
+    let mut len = 0;
+    while len < near.len() && near[len] != 0 && usize::from(near[len]) <= MAX_LABEL {
+        len += 1 + usize::from(near[len]);
     }
-    let first = buffer[at];
-    if first == 0 {
-        return Ok(Part::Root);
-    }
-    if first < 64 {
-        if buffer.len() < at + 1 + usize::from(first) {
+    if len >= near.len() {
+        if len > bytes.len() || before + len < MAX_NAME {
             return Err(DecodeError::InsufficientBytes);
         }
-        return Ok(Part::Label(first));
-    }
-    if first < 192 {
         return Err(DecodeError::BadName);
     }
-    if at + 1 >= buffer.len() {
+    let first = near[len];
+    if first == 0 {
+        return Ok(NamePiece { len, pointer: None });
+    }
+    if first < POINTER_BITS {
+        return Err(DecodeError::BadName);
+    }
+    if len + 1 >= bytes.len() {
         return Err(DecodeError::InsufficientBytes);
     }
-    Ok(Part::Pointer(256 * u16::from(first - 192) + u16::from(buffer[at + 1])))
+    let target = 256 * u16::from(first - POINTER_BITS) + u16::from(bytes[len + 1]);
+    Ok(NamePiece {
+        len,
+        pointer: Some(target),
+    })
 }
 
-/// Copies a label with its length after what is used of the room, as one block of 16 or 64 bytes where both sides have
-/// as many, since a fixed number is copied faster.
-fn copy_label(buffer: &[u8], at: usize, size: usize, room: &mut [u8; MAX_LABELS], used: usize)
-    // The bytes to be copied lie within the buffer.
-    requires there { at + size ≤ length buffer.now }
+/// Copies the first `size` bytes after what is used of the room, as one block of 16 or 64 where both sides have as
+/// many, since a fixed number is copied faster. For none nothing is called.
+#[inline(always)]
+fn copy_labels(bytes: &[u8], size: usize, room: &mut [u8; MAX_LABELS], used: usize)
+    // The bytes to be copied are there.
+    requires there { size ≤ length bytes.now }
     // After what is used, the room has space for them.
     requires fits { used + size ≤ MAX_LABELS }
-    ensures { take (used + size) room.new
-        ≡ take used room.old ++ slice_range buffer.now at (at + size) }
+    ensures { take (used + size) room.new ≡ take used room.old ++ take size bytes.now }
 {
-    if size <= SHORT && used + SHORT <= MAX_LABELS && at + SHORT <= buffer.len() {
-        room[used..used + SHORT].copy_from_slice(&buffer[at..at + SHORT]);
-    } else if size <= LONG && used + LONG <= MAX_LABELS && at + LONG <= buffer.len() {
-        room[used..used + LONG].copy_from_slice(&buffer[at..at + LONG]);
-    } else {
-        room[used..used + size].copy_from_slice(&buffer[at..at + size]);
+    if size == 0 {
+        return;
     }
-}
-
-/// Copies kept labels after what is used of the room. The root has none, for which nothing is called.
-fn copy_kept(labels: &[u8], room: &mut [u8; MAX_LABELS], used: usize)
-    requires { used + length labels.now ≤ MAX_LABELS }
-    ensures { take (used + length labels.now) room.new ≡ take used room.old ++ labels.now }
-{
-    if !labels.is_empty() {
-        room[used..used + labels.len()].copy_from_slice(labels);
+    if size <= SHORT && used + SHORT <= MAX_LABELS && SHORT <= bytes.len() {
+        room[used..used + SHORT].copy_from_slice(&bytes[..SHORT]);
+    } else if size <= LONG && used + LONG <= MAX_LABELS && LONG <= bytes.len() {
+        room[used..used + LONG].copy_from_slice(&bytes[..LONG]);
+    } else {
+        room[used..used + size].copy_from_slice(&bytes[..size]);
     }
 }
 
@@ -138,103 +148,68 @@ fn kept_labels<'d>(
     Ok(Some(labels))
 }
 
-/// What was gathered of a name: its labels stand in the room, each with its length before it.
-#[derive(Drop)]
-struct Gathered<'a> {
-    /// How many bytes the labels are.
-    used: usize,
-    /// The place after the name.
-    end: usize,
-    /// Where the labels that the last pointer led to are.
-    last: Source<'a>,
-}
-
-/// Gathers the labels of the name at the decoder's place in `room`, and the pointers that were followed. Where a first
-/// look found that it is a pointer alone, to a target whose labels aren't kept, that target may be given.
+/// Gathers in `room`, after a name's own labels, those that its pointer leads to, piece by piece, and notes the other
+/// pointers that are followed. Answers how many bytes all labels are, and where those after the last pointer stand.
 fn gather_labels<'a>(
     decoder: &mut BinDecoder<'a>,
     room: &mut [u8; MAX_LABELS],
-    followed: &mut FollowedPointers,
-    bare: Option<u16>,
-) -> Result<Gathered<'a>, DecodeError>
-    requires none { followed.old ≡ [] }
-    requires bare { IfSome bare (λ t. IsBare decoder.old t) }
+    first: FollowedPointer,
+    others: &mut Vec<FollowedPointer>,
+) -> Result<(usize, Source<'a>), DecodeError>
+    requires pointed { IsPointed decoder.old first.from first.target }
+    requires own { take first.from room.old
+        ≡ take first.from (drop decoder.old.index decoder.old.bytes) }
+    requires none { others.old.items ≡ [] }
     ensures read { MatchResult result
         (λ r. labels_at decoder.old.bytes decoder.old.index decoder.old.index 0
-        ≡ Ok (labels_of (take r.used room.new), r.end))
+        ≡ Ok (labels_of (take r.0 room.new), decoder.old.index + first.from + 2))
         (λ e. Fails e (labels_at decoder.old.bytes decoder.old.index decoder.old.index 0)) }
-    ensures used { IfOk result (λ r. r.used ≤ MAX_LABELS) }
-    ensures end { IfOk result (λ r. r.end ≤ length decoder.old.bytes) }
+    ensures used { IfOk result (λ r. r.0 ≤ MAX_LABELS) }
     // The bytes gathered are labels of 1 to 63 bytes, each with its length before it.
-    ensures wire { IfOk result (λ r. IsWire (take r.used room.new)) }
+    ensures wire { IfOk result (λ r. IsWire (take r.0 room.new)) }
     // From where a pointer was followed, the labels gathered are those that its target spells.
     ensures kept { IfOk result
-        (λ r. AreSpelled decoder.old.bytes (take r.used room.new) followed.new) }
+        (λ r. AreSpelled decoder.old.bytes (take r.0 room.new) (first ∷ others.new.items)) }
     // The labels that the last pointer led to are where this says.
     ensures last { IfOk result (λ r.
-        OfLast (IsSource (KeepsAt decoder.old.bytes decoder.old.kept) r.last)
-        (take r.used room.new) followed.new) }
+        OfLast (IsSource (KeepsAt decoder.old.bytes decoder.old.kept) r.1)
+        (take r.0 room.new) (first ∷ others.new.items)) }
     // The targets are distinct, and none was kept before; but for the count of pointers followed,
     // which grows by their number, the decoder stays as it was.
-    ensures followed { Followed (targets followed.new) decoder.old decoder.new }
+    ensures followed { Followed (targets (first ∷ others.new.items)) decoder.old decoder.new }
     // The name passes these targets and, beside them, only offsets that were kept before.
-    ensures these { IfOk result (λ r.
-        PassesThese decoder.old.bytes decoder.old.kept decoder.old.index (targets followed.new)) }
+    ensures these { IfOk result (λ _.
+        PassesThese decoder.old.bytes decoder.old.kept decoder.old.index
+        (targets (first ∷ others.new.items))) }
     // From each target only kept offsets are passed, and those that were followed after it.
-    ensures later { IfOk result (λ r. PassLater decoder.old.bytes decoder.old.kept followed.new) }
+    ensures later { IfOk result (λ _.
+        PassLater decoder.old.bytes decoder.old.kept (first ∷ others.new.items)) }
 {
-    let first = decoder.index();
-    let mut piece = decoder.rest();
-    let mut start = first;
-    let mut at = 0;
-    let mut used = 0;
-    let mut end = None;
-    if let Some(target) = bare {
-        followed.push(FollowedPointer { target, from: 0 })?;
-        piece = decoder.follow(target);
-        end = Some(first + 2);
-        start = usize::from(target);
-    }
-    'parts: loop {
-        match read_part(piece, at)? {
-            Part::Root => {
-                return Ok(Gathered {
-                    used,
-                    end: end.unwrap_or(start + at + 1),
-                    last: Source::Message(&piece[..at]),
-                });
-            }
-            Part::Label(len) => {
-                let size = 1 + usize::from(len);
-                if used + size + 1 > MAX_NAME {
-                    return Err(DecodeError::BadName);
-                }
-                copy_label(piece, at, size, room, used);
-                used += size;
-                at += size;
-            }
-            Part::Pointer(target) => {
-                let after = end.unwrap_or(start + at + 2);
-                if let Some(labels) = kept_labels(decoder, target, start, used)? {
-                    let last = if at == 0 {
-                        Source::Kept(target)
-                    } else {
-                        Source::Nowhere
-                    };
-                    copy_kept(labels, room, used);
-                    return Ok(Gathered {
-                        used: used + labels.len(),
-                        end: after,
-                        last,
-                    });
-                }
-                followed.push(FollowedPointer { target, from: used })?;
-                piece = decoder.follow(target);
-                end = Some(after);
-                start = usize::from(target);
-                at = 0;
-            }
+    let mut target = first.target;
+    let mut used = first.from;
+    let mut bytes = decoder.follow(target);
+    'pieces: loop {
+        let piece = read_piece(bytes, used)?;
+        copy_labels(bytes, piece.len, room, used);
+        used += piece.len;
+        let Some(next) = piece.pointer else {
+            return Ok((used, Source::Message(&bytes[..piece.len])));
+        };
+        if let Some(labels) = kept_labels(decoder, next, usize::from(target), used)? {
+            let source = if piece.len == 0 {
+                Source::Kept(next)
+            } else {
+                Source::Nowhere
+            };
+            copy_labels(labels, labels.len(), room, used);
+            return Ok((used + labels.len(), source));
         }
+        others.push(FollowedPointer {
+            target: next,
+            from: used,
+        })?;
+        bytes = decoder.follow(next);
+        target = next;
     }
 }
 
@@ -243,118 +218,50 @@ fn gather_labels<'a>(
 fn keep_targets<'a>(
     decoder: &mut BinDecoder<'a>,
     labels: &[u8],
-    followed: &FollowedPointers,
+    first: FollowedPointer,
+    others: &[FollowedPointer],
     last: Source<'a>,
 ) -> Result<(), DecodeError>
     // From where a pointer was followed, the labels are those that its target spells.
-    requires spelled { AreSpelled decoder.old.bytes labels.now followed.now }
+    requires spelled { AreSpelled decoder.old.bytes labels.now (first ∷ others.now) }
     // The labels that the last pointer led to are where this says.
     requires last { OfLast (IsSource (KeepsAt decoder.old.bytes decoder.old.kept) last)
-        labels.now followed.now }
+        labels.now (first ∷ others.now) }
     // From each target only kept offsets are passed, and those that were followed after it.
-    requires later { PassLater decoder.old.bytes decoder.old.kept followed.now }
+    requires later { PassLater decoder.old.bytes decoder.old.kept (first ∷ others.now) }
     // The targets are distinct, and none is kept yet.
-    requires new { set.len (inserted (targets followed.now) decoder.old.kept)
-        ≡ set.len decoder.old.kept + length (targets followed.now) }
+    requires new { set.len (inserted (targets (first ∷ others.now)) decoder.old.kept)
+        ≡ set.len decoder.old.kept + length (targets (first ∷ others.now)) }
     ensures ok { OnOk result (decoder.new
-        ≡ record decoder.old { kept = inserted (targets followed.now) decoder.old.kept }) }
+        ≡ record decoder.old { kept = inserted (targets (first ∷ others.now)) decoder.old.kept }) }
     // A refusal leaves the count of pointers followed as it was.
     ensures err { OnErr result (decoder.new.jumps ≡ decoder.old.jumps) }
     ensures only { IsOkUnless result DecodeError.Memory }
 {
-    for i in (0..followed.len()).rev() {
-        if let Some(pointer) = followed.at(i) {
-            let source = if i + 1 == followed.len() {
-                last
-            } else {
-                Source::Nowhere
-            };
-            decoder.keep(pointer.target, &labels[pointer.from..], source)?;
-        }
+    let mut source = last;
+    for i in (0..others.len()).rev() {
+        let pointer = others[i];
+        decoder.keep(pointer.target, &labels[pointer.from..], source)?;
+        source = Source::Nowhere;
     }
-    Ok(())
+    decoder.keep(first.target, &labels[first.from..], source)
 }
 
-/// The labels of a name for which no pointer is followed: its own, and after them those that its pointer leads to,
-/// where it has one and they are kept.
-#[derive(Drop)]
-struct InPlace<'d> {
-    /// Bytes that begin with its own labels, each with its length before it.
-    own: &'d [u8],
-    /// How many bytes its own labels are.
-    used: usize,
-    /// The kept labels, none where it has no pointer.
-    kept: &'d [u8],
-    /// The place after the name.
-    end: usize,
-}
-
-/// What a first look at a name finds.
-#[derive(Drop)]
-enum Look<'d> {
-    /// A name for which no pointer need be followed, as most are: it has none, or one to a kept target.
-    InPlace(InPlace<'d>),
-    /// A pointer alone, to a target whose labels aren't kept.
-    Pointer(u16),
-    /// Another name, or none.
-    Other,
-}
-
-/// Looks at the name at the decoder's place.
-fn first_look<'d>(decoder: &'d BinDecoder<'_>) -> Look<'d>
-    ensures own { IfInPlace result (λ p. p.used ≤ length p.own.now) }
-    ensures read { IfInPlace result
-        (λ p. labels_at decoder.now.bytes decoder.now.index decoder.now.index 0
-        ≡ Ok (labels_of (take p.used p.own.now ++ p.kept.now), p.end)) }
-    ensures wire { IfInPlace result (λ p. IsWire (take p.used p.own.now ++ p.kept.now)) }
-    ensures end { IfInPlace result (λ p. p.end ≤ length decoder.now.bytes) }
-    // The name passes kept offsets alone.
-    ensures these { IfInPlace result
-        (λ _. PassesThese decoder.now.bytes decoder.now.kept decoder.now.index []) }
-    ensures bare { IfPointer result (λ t. IsBare decoder.now t) }
-{
-    let first = decoder.index();
-    let own = decoder.rest();
-    // A name that ends within so many bytes isn't too long, so that its length isn't looked at after each label.
-    let near = &own[..own.len().min(MAX_NAME)];
-    let mut used = 0;
-    while used < near.len() && near[used] != 0 && usize::from(near[used]) <= MAX_LABEL {
-        used += 1 + usize::from(near[used]);
-    }
-    if used >= near.len() {
-        return Look::Other;
-    }
-    match read_part(own, used).ok() {
-        Some(Part::Root) => Look::InPlace(InPlace {
-            own,
-            used,
-            kept: &own[..0],
-            end: first + used + 1,
-        }),
-        Some(Part::Pointer(target)) => match kept_labels(decoder, target, first, used).ok() {
-            Some(Some(kept)) => Look::InPlace(InPlace {
-                own,
-                used,
-                kept,
-                end: first + used + 2,
-            }),
-            Some(None) if used == 0 => Look::Pointer(target),
-            _ => Look::Other,
-        },
-        _ => Look::Other,
-    }
-}
-
-/// Reads a name with a pointer that has to be followed. It stands by itself, since LLVM would else clear the room of
-/// each name, though few use it.
+/// Reads a name whose own piece ends in a pointer that has to be followed. It stands by itself, since LLVM would else
+/// clear the room of each name, though few use it.
 ///
 /// # Errors
 ///
 /// What `read` refuses.
 #[inline(always)]
 #[tactic(auto, unfolding(crate::specs::Names::name_at))]
-fn read_following(decoder: &mut BinDecoder<'_>, bare: Option<u16>) -> Result<Name, DecodeError>
-    requires { IfSome bare (λ t. IsBare decoder.old t) }
+fn read_following(
+    decoder: &mut BinDecoder<'_>,
+    own: &[u8],
+    first: FollowedPointer,
+) -> Result<Name, DecodeError>
+    requires own { own.now ≡ drop decoder.old.index decoder.old.bytes }
+    requires pointed { IsPointed decoder.old first.from first.target }
     // These are as of every name: see `read`.
     ensures read { Reads (λ x. x) decoder.old decoder.new result
         (name_at decoder.old.bytes decoder.old.index) }
@@ -364,11 +271,13 @@ fn read_following(decoder: &mut BinDecoder<'_>, bare: Option<u16>) -> Result<Nam
         → decoder.new.kept ≡ set.union decoder.old.kept (set.from_list (passed h))) }
     ensures tracks { Tracks (λ _. decoder.old.index ∷ []) decoder.old decoder.new result }
 {
+    let end = decoder.index() + first.from + 2;
     let mut room = [0; MAX_LABELS];
-    let mut followed = FollowedPointers::new(decoder.allocator());
-    let Gathered { used, end, last } = gather_labels(decoder, &mut room, &mut followed, bare)?;
+    copy_labels(own, first.from, &mut room, 0);
+    let mut others = Vec::new(decoder.allocator());
+    let (used, last) = gather_labels(decoder, &mut room, first, &mut others)?;
     let labels = Labels::from_front(decoder.allocator(), &room, used, true)?;
-    keep_targets(decoder, &room[..used], &followed, last)?;
+    keep_targets(decoder, &room[..used], first, &others, last)?;
     decoder.move_to(end);
     Ok(Name { labels })
 }
@@ -399,22 +308,19 @@ impl BinDecodable for Name {
         // The same, said as of every read: see `BinDecodable::read`.
         ensures tracks { Tracks (λ _. decoder.old.index ∷ []) decoder.old decoder.new result }
     {
-        let bare = match first_look(decoder) {
-            Look::InPlace(
-                InPlace {
-                    own,
-                    used,
-                    kept,
-                    end,
-                },
-            ) => {
-                let labels = Labels::from_front_and(decoder.allocator(), own, used, kept, true)?;
-                decoder.move_to(end);
-                return Ok(Name { labels });
-            }
-            Look::Pointer(target) => Some(target),
-            Look::Other => None,
+        let first = decoder.index();
+        let own = decoder.rest();
+        let NamePiece { len, pointer } = read_piece(own, 0)?;
+        let Some(target) = pointer else {
+            let labels = Labels::from_front(decoder.allocator(), own, len, true)?;
+            decoder.move_to(first + len + 1);
+            return Ok(Name { labels });
         };
-        read_following(decoder, bare)
+        let Some(kept) = kept_labels(decoder, target, first, len)? else {
+            return read_following(decoder, own, FollowedPointer { target, from: len });
+        };
+        let labels = Labels::from_front_and(decoder.allocator(), own, len, kept, true)?;
+        decoder.move_to(first + len + 2);
+        Ok(Name { labels })
     }
 }

@@ -1,22 +1,12 @@
-use Rattle.std.proofs.Common.{◌≡◌, ◌+◌, ◌-◌, drop, take}
-use Rattle.std.specs.Prelude.{All}
-use Rattle.base.specs.Pointers.{IsLast, targets}
-use Rattle.base.proofs.CountLemmas.{Follows}
-use Rattle.base.proofs.GatherLemmas.{Gathers}
-use Rattle.base.proofs.PassLemmas.{Lead, Leads}
-use Rattle.base.proofs.TailLemmas.{Tail}
+use Rattle.std.proofs.Common.{◌≡◌, ◌∷◌, ◌+◌, drop, take}
+use Rattle.base.proofs.GatheringLemmas.{Gathering}
 use Rattle.base.proofs.name.reading.gather_labels.Given as goal
 
-abbrev pub invariant-parts : goal.invariant-parts
-invariant-parts l = record {
-  piece : l.piece ≡ drop l.start l.fn.decoder.bytes;
-  gathers : Gathers l.fn.decoder.bytes l.fn.decoder.index 0 l.start (l.start + l.at) l.used (take l.used l.room) l.end;
-  tails : All (Tail l.fn.decoder.bytes l.start (l.start + l.at) l.used (take l.used l.room)) l.followed;
-  last : IsLast (take l.at l.piece) (take l.used l.room) l.followed;
-  leads : Leads l.fn.decoder.bytes l.fn.decoder.index (targets l.followed) l.start (l.start + l.at);
-  lead : Lead l.fn.decoder.bytes l.followed l.start (l.start + l.at);
-  follows : Follows (targets l.followed) l.start l.fn.decoder l.decoder;
+abbrev pub invariant-pieces : goal.invariant-pieces
+invariant-pieces l = record {
+  bytes : l.bytes ≡ drop l.target l.fn.decoder.bytes;
+  gathering : Gathering l.fn.decoder l.decoder (l.fn.decoder.index + l.fn.first.from + 2) (l.fn.first ∷ l.others.items) l.target l.target l.used (take l.used l.room);
 }
 
-abbrev pub decreases-parts : goal.decreases-parts
-decreases-parts l = l.start + (256 - l.used)
+abbrev pub decreases-pieces : goal.decreases-pieces
+decreases-pieces l = l.target
