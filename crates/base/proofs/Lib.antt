@@ -1,15 +1,11 @@
-pub mod CacheLemmas
 pub mod CharLemmas
 pub mod ClassTexts
 pub mod CompareLemmas
 pub mod CompressionLemmas
 pub mod CopyLemmas
-pub mod CountLemmas
 pub mod Cutting
 pub mod EscapeLemmas
 pub mod FittingLemmas
-pub mod GatherLemmas
-pub mod GatheringLemmas
 pub mod Giving
 pub mod ItemLemmas
 pub mod JoinLemmas
@@ -25,9 +21,7 @@ pub mod NameOfLemmas
 pub mod NamedLemmas
 pub mod NamesLemmas
 pub mod ParseLemmas
-pub mod PassLemmas
 pub mod PatchLemmas
-pub mod PieceLemmas
 pub mod ReadLemmas
 pub mod ReadTexts
 pub mod ReadingLemmas
@@ -37,7 +31,6 @@ pub mod ShapeLemmas
 pub mod SliceLemmas
 pub mod SpellingLemmas
 pub mod SuffixLemmas
-pub mod TailLemmas
 pub mod TakingLemmas
 pub mod TextLawLemmas
 pub mod TextLemmas
@@ -46,5 +39,5 @@ pub mod TrackLemmas
 pub mod TtlLawLemmas
 pub mod TtlLemmas
 pub mod TypeTexts
-pub mod WalkLemmas
 pub mod WrittenLemmas
+pub mod reading

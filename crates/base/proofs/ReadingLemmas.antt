@@ -12,8 +12,8 @@ use Rattle.base.specs.Labels.{NameValue, size_of}
 use Rattle.base.specs.Names.{NamePart, zero_byte, label_of, pointer_to, Labels, part_at, with_label, ending, after_part, walk, labels_at, name_at}
 use Rattle.base.specs.Reading.{◌>>=◌}
 use Rattle.base.specs.Spelling.{ByteAt, BytesAt, ends, label, pointer, Spelled, IsNameAt, anywhere, target}
-use Rattle.base.proofs.WalkLemmas.{PartIs, is_past, is_root, is_cut_label, is_label, is_bits, is_cut_pointer, is_pointer, fuel, part_is}
-use Rattle.base.proofs.WalkLemmas.{part_at-past, part_at-root, part_at-cut_label, part_at-label, part_at-bits, part_at-cut_pointer, part_at-pointer, labels_at-step, walk-suc}
+use Rattle.base.proofs.reading.WalkLemmas.{PartIs, is_past, is_root, is_cut_label, is_label, is_bits, is_cut_pointer, is_pointer, fuel, part_is}
+use Rattle.base.proofs.reading.WalkLemmas.{part_at-past, part_at-root, part_at-cut_label, part_at-label, part_at-bits, part_at-cut_pointer, part_at-pointer, labels_at-step, walk-suc}
 
 -- what is read is spelled and not too long, or is the fault
 abbrev pub IsRight : List ℕ → ℕ → ℕ → ℕ → Labels → Type 0

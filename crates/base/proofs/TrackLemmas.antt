@@ -15,7 +15,7 @@ use Rattle.base.specs.Reading.{Read}
 use Rattle.base.specs.Spelling.{Spelled}
 use Rattle.base.specs.Pointers.{Followed}
 use Rattle.base.specs.Tracks.{IsBounded, IsPassed, Tracked, Tracks}
-use Rattle.base.proofs.CountLemmas.{IsAfterName, both_lists, contains-inserted, counted_after, ends_after, inserted-none, same_members}
+use Rattle.base.proofs.reading.CountLemmas.{IsAfterName, both_lists, contains-inserted, counted_after, ends_after, inserted-none, same_members}
 
 or_of_three : (a b c : Bool) → (a || (b || c)) ≡ ((a || b) || c)
 or_of_three true b c = refl

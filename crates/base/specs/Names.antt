@@ -1,5 +1,5 @@
 -- Reading a name: the labels and the place after them, or the first fault (RFC 1035, 4.1.4).
-use Rattle.base.specs.declared.limits.TheConstants.{MAX_NAME}
+use Rattle.base.specs.declared.limits.TheConstants.{MAX_LABEL, MAX_NAME, POINTER_BITS}
 use Rattle.std.specs.Prelude.{ℕ, zero, suc, ◌+◌, ◌-◌, ◌==◌, List, [], ◌∷◌, length, slice_index, slice_range, nat_lt, nat_le, if◌then◌else◌, Result, Ok, Err, true}
 use Rattle.base.specs.declared.error.decode_error.DecodeError.{DecodeError}
 use Rattle.base.specs.declared.error.decode_error.DecodeError.TheVariants as faults
@@ -20,10 +20,10 @@ part_at bytes i =
     let b = slice_index bytes i in
     if nat_le (length bytes) i then Err faults.InsufficientBytes
     else (if b == 0 then Ok zero_byte
-    else (if nat_lt b 64
+    else (if nat_le b MAX_LABEL
     then (if nat_lt (length bytes) (i + 1 + b) then Err faults.InsufficientBytes
     else Ok (label_of b))
-    else (if nat_lt b 192 then Err faults.BadName
+    else (if nat_lt b POINTER_BITS then Err faults.BadName
     else (if nat_le (length bytes) (i + 1) then Err faults.InsufficientBytes
     else Ok (pointer_to (target b (slice_index bytes (i + 1))))))))
 

@@ -1,5 +1,5 @@
 -- How a name is spelled in a message (RFC 1035, 4.1.4).
-use Rattle.base.specs.declared.limits.TheConstants.{MAX_LABEL, MAX_NAME}
+use Rattle.base.specs.declared.limits.TheConstants.{MAX_LABEL, MAX_NAME, POINTER_BITS}
 use Rattle.std.specs.Prelude.{◌≡◌, ℕ, ◌+◌, ◌-◌, ◌*◌, ◌<◌, ◌≤◌, ◌⊎◌, Bool, IsTrue, List, [], ◌∷◌, length, slice_index, true}
 use Rattle.base.specs.Labels.{NameValue, plain_len}
 
@@ -17,7 +17,7 @@ pub record BytesAt (looks : ℕ → Type 0) (bytes : List ℕ) (i : ℕ) (x : Li
 
 -- the offset of a pointer of two bytes, the top bits of the first being 11
 abbrev pub target : ℕ → ℕ → ℕ
-target b c = 256 * (b - 192) + c
+target b c = 256 * (b - POINTER_BITS) + c
 
 -- The labels are spelled from i up to e, in a piece that begins at s: a zero byte; or a label, and
 -- the others after it; or a pointer to a place below s, where a new piece begins.
@@ -27,7 +27,7 @@ pub data SpelledIn (looks : ℕ → Type 0) (bytes : List ℕ) : ℕ → ℕ →
       → 1 ≤ length x → length x ≤ MAX_LABEL → BytesAt looks bytes (i + 1) x
       → SpelledIn looks bytes s (i + 1 + length x) xs e → SpelledIn looks bytes s i (x ∷ xs) e
   pointer : {s i b c e : ℕ} {xs : List (List ℕ)} → ByteAt looks bytes i b
-      → ByteAt looks bytes (i + 1) c → 192 ≤ b → target b c < s
+      → ByteAt looks bytes (i + 1) c → POINTER_BITS ≤ b → target b c < s
       → SpelledIn looks bytes (target b c) (target b c) xs e → SpelledIn looks bytes s i xs (i + 2)
 
 -- every place that is looked at and lies in the old bytes lies in the new ones, with the same byte

@@ -8,9 +8,9 @@ use Rattle.base.specs.declared.name.reading.FollowedPointer.{FollowedPointer}
 use Rattle.base.specs.declared.wire.pointer_cache.Source.{Source}
 use Rattle.base.specs.Pointers.{Followed, IsKept, IsSource, KeepsAt, OfLast, targets}
 use Rattle.base.specs.Reader.{Reader}
-use Rattle.base.proofs.GatherLemmas.{fails_is}
-use Rattle.base.proofs.GatheringLemmas.{Gathered, Gathering, followed_so_far, gathered_kept, gathered_root, gathering_first, gathering_next, gathering_piece, gathering_refused, last_kept, last_piece, of_any, of_last}
-use Rattle.base.proofs.PieceLemmas.{piece_end, piece_fits, piece_refused}
+use Rattle.base.proofs.reading.GatherLemmas.{fails_is}
+use Rattle.base.proofs.reading.GatheringLemmas.{Gathered, Gathering, followed_so_far, gathered_kept, gathered_root, gathering_first, gathering_next, gathering_piece, gathering_refused, last_kept, last_piece, of_any, of_last}
+use Rattle.base.proofs.reading.PieceLemmas.{piece_end, piece_fits, piece_refused}
 use Rattle.base.proofs.name.reading.gather_labels.Goals as goal
 use Rattle.base.proofs.name.reading.gather_labels.Goals.{then-piece-eq0, else-piece-eq0}
 

@@ -1,5 +1,5 @@
 use Rattle.std.proofs.Common.{◌≡◌, ◌∷◌, ◌+◌, drop, take}
-use Rattle.base.proofs.GatheringLemmas.{Gathering}
+use Rattle.base.proofs.reading.GatheringLemmas.{Gathering}
 use Rattle.base.proofs.name.reading.gather_labels.Given as goal
 
 abbrev pub invariant-pieces : goal.invariant-pieces

@@ -6,8 +6,8 @@ use Rattle.std.proofs.lemmas.Result.{on_ok_weaker}
 use Rattle.base.specs.declared.name.reading.FollowedPointer.{FollowedPointer}
 use Rattle.base.specs.Pointers.{targets}
 use Rattle.base.specs.Passing.{inserted}
-use Rattle.base.proofs.CountLemmas.{inserted-none}
-use Rattle.base.proofs.GatheringLemmas.{CanKeep, can_keep, none, one_more_kept}
+use Rattle.base.proofs.reading.CountLemmas.{inserted-none}
+use Rattle.base.proofs.reading.GatheringLemmas.{CanKeep, can_keep, none, one_more_kept}
 use Rattle.base.proofs.name.reading.keep_targets.Goals as goal
 
 pub loop-i-init : goal.loop-i-init

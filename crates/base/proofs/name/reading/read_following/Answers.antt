@@ -3,8 +3,8 @@ use Rattle.base.specs.declared.name.reading.FollowedPointer.{FollowedPointer}
 use Rattle.base.specs.Passing.{inserted}
 use Rattle.base.specs.Pointers.{IsSource, KeepsAt, OfLast, PassLater, targets}
 use Rattle.base.specs.Reader.{Reader}
-use Rattle.base.proofs.GatherLemmas.{pointer_fits}
-use Rattle.base.proofs.GatheringLemmas.{NameRead, name_read}
+use Rattle.base.proofs.reading.GatherLemmas.{pointer_fits}
+use Rattle.base.proofs.reading.GatheringLemmas.{NameRead, name_read}
 use Rattle.base.proofs.name.reading.read_following.Goals as goal
 
 pub copy_labels-requires-clause-there : goal.copy_labels-requires-clause-there

@@ -1,8 +1,8 @@
 use Rattle.std.proofs.Common.{◌≡◌, ◌≤◌, ◌+◌, refl, sym, ◌∙◌, arith, length-take, take, get_or}
 use Rattle.base.specs.Pieces.{nothing_there}
 use Rattle.base.specs.Spelling.{ByteAt, anywhere}
-use Rattle.base.proofs.PieceLemmas.{at_front, in_all, past, walked_cut, walked_labels, walked_long, walked_off}
-use Rattle.base.proofs.WalkLemmas.{byte, part_at-bits, part_at-cut_pointer, part_at-pointer, part_at-root}
+use Rattle.base.proofs.reading.PieceLemmas.{at_front, in_all, past, walked_cut, walked_labels, walked_long, walked_off}
+use Rattle.base.proofs.reading.WalkLemmas.{byte, part_at-bits, part_at-cut_pointer, part_at-pointer, part_at-root}
 use Rattle.base.proofs.name.reading.read_piece.Goals as goal
 use Rattle.base.proofs.name.reading.read_piece.Goals.{then-loop-len-test+then-near-len-ne0+else-from-le-MAX_LABEL, then-loop-len-test+else-near-len-ne0, else-loop-len-test}
 use Rattle.base.proofs.name.reading.read_piece.Goals.{then-len-bytes-via-then-len-bytes, then-len-bytes-via-else-len-bytes+then-before-len-lt-MAX_NAME}

@@ -1,5 +1,5 @@
 use Rattle.std.specs.Prelude.{◌-◌}
-use Rattle.base.proofs.PieceLemmas.{WalkedTo}
+use Rattle.base.proofs.reading.PieceLemmas.{WalkedTo}
 use Rattle.base.proofs.name.reading.read_piece.Given as goal
 
 abbrev pub invariant-loop-len : goal.invariant-loop-len

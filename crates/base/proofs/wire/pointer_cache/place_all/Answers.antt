@@ -7,7 +7,7 @@ use Rattle.std.proofs.lemmas.List.{drop_more}
 use Rattle.base.specs.declared.wire.pointer_cache.TargetLabels.TheVariants.{Copied}
 use Rattle.base.specs.declared.wire.pointer_cache.Target.{Target}
 use Rattle.base.specs.Pointers.{target_entries, target_labels, placed}
-use Rattle.base.proofs.CacheLemmas.{found_again, longer_at, longer_both, one_placed}
+use Rattle.base.proofs.reading.CacheLemmas.{found_again, longer_at, longer_both, one_placed}
 use Rattle.base.proofs.wire.pointer_cache.place_all.Goals as goal
 
 abbrev none : Target

@@ -1,7 +1,7 @@
 use Rattle.std.proofs.Common.{◌≡◌, ◌∙◌, ℕ, List, Some, Ok, Err, Result, ap, refl}
 use Rattle.std.specs.Prelude.{OnOk, get_or}
 use Rattle.base.specs.Pointers.{labels_in, placed, target_labels}
-use Rattle.base.proofs.CacheLemmas.{found_there, place_of}
+use Rattle.base.proofs.reading.CacheLemmas.{found_there, place_of}
 use Rattle.base.proofs.wire.pointer_cache.place_labels.Goals as goal
 use Rattle.base.proofs.wire.pointer_cache.place_labels.Goals.{in-Some, in-None}
 

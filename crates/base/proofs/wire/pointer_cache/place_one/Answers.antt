@@ -1,7 +1,7 @@
 use Rattle.std.proofs.Common.{◌≡◌, ◌∙◌, ℕ, List, sym, subst}
 use Rattle.std.specs.Prelude.{All, slice_set}
 use Rattle.base.specs.Pointers.{IsInside}
-use Rattle.base.proofs.CacheLemmas.{is_put, put_inside, put_others, same_inside, set_inside, set_others}
+use Rattle.base.proofs.reading.CacheLemmas.{is_put, put_inside, put_others, same_inside, set_inside, set_others}
 use Rattle.base.proofs.wire.pointer_cache.place_one.Goals as goal
 use Rattle.base.proofs.wire.pointer_cache.place_one.Goals.{in-Lent+in_ok-place-in-Lent, in-Copied}
 

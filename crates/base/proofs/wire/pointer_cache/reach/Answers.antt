@@ -1,6 +1,6 @@
 use Rattle.std.proofs.Common.{ℕ, List, ◌∙◌, ap, arith}
 use Rattle.std.specs.Prelude.{get_or}
-use Rattle.base.proofs.CacheLemmas.{zeros_after}
+use Rattle.base.proofs.reading.CacheLemmas.{zeros_after}
 use Rattle.base.proofs.wire.pointer_cache.reach.Goals as goal
 
 pub loop-none-preserved : goal.loop-none-preserved

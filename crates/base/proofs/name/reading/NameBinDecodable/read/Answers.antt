@@ -1,10 +1,10 @@
 use Rattle.std.proofs.Common.{◌∙◌, ◌++◌, ◌+◌, ℕ, Err, refl, ap, arith, drop, take, sym}
 use Rattle.std.specs.Prelude.{is_some}
 use Rattle.std.proofs.lemmas.Result.{err_from_is_err_and}
-use Rattle.base.proofs.CountLemmas.{inserted-none}
-use Rattle.base.proofs.GatherLemmas.{fails_is, gathers_none}
-use Rattle.base.proofs.GatheringLemmas.{NameRead, followed_none, name_read}
-use Rattle.base.proofs.PieceLemmas.{IsName, name_kept, name_root, piece_fits, piece_refused, pointed_nowhere}
+use Rattle.base.proofs.reading.CountLemmas.{inserted-none}
+use Rattle.base.proofs.reading.GatherLemmas.{fails_is, gathers_none}
+use Rattle.base.proofs.reading.GatheringLemmas.{NameRead, followed_none, name_read}
+use Rattle.base.proofs.reading.PieceLemmas.{IsName, name_kept, name_root, piece_fits, piece_refused, pointed_nowhere}
 use Rattle.base.proofs.ReadingLemmas.{name_from, name_refused}
 use Rattle.base.proofs.name.reading.NameBinDecodable.read.Goals as goal
 

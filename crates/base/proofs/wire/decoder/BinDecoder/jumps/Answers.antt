@@ -1,7 +1,7 @@
 use Rattle.std.proofs.Common.{◌≤◌, ap, subst, sym, ◌∙◌}
 use Rattle.std.specs.FinSet as set
 use Rattle.base.specs.Reader.{Reader}
-use Rattle.base.proofs.CountLemmas.{few_kept}
+use Rattle.base.proofs.reading.CountLemmas.{few_kept}
 use Rattle.base.proofs.wire.decoder.BinDecoder.jumps.Goals as goal
 
 pub returns-clause-counted : goal.returns-clause-counted

@@ -4,8 +4,8 @@ use Rattle.std.specs.Ordering.{nat_cmp}
 use Rattle.base.specs.Passing.{IsClosed, PassesKept}
 use Rattle.base.specs.Pointers.{AreKept, Cache, IsKept, IsSource, KeepsAt, targets_of}
 use Rattle.base.specs.Reader.{Reader}
-use Rattle.base.proofs.CountLemmas.{kept_are, kept_at, same_source, not_kept, targets_inserted}
-use Rattle.base.proofs.PassLemmas.{closed_inserted}
+use Rattle.base.proofs.reading.CountLemmas.{kept_are, kept_at, same_source, not_kept, targets_inserted}
+use Rattle.base.proofs.reading.PassLemmas.{closed_inserted}
 use Rattle.base.proofs.wire.decoder.BinDecoder.keep.Goals as goal
 
 pub insert-requires-clause-new : goal.insert-requires-clause-new

@@ -5,7 +5,7 @@ use Rattle.std.specs.Prelude.{Option, is_some}
 use Rattle.base.specs.Passing.{IsClosed}
 use Rattle.base.specs.Pointers.{labels_now}
 use Rattle.base.specs.Reader.{Reader}
-use Rattle.base.proofs.CountLemmas.{contains_kept, kept_near}
+use Rattle.base.proofs.reading.CountLemmas.{contains_kept, kept_near}
 use Rattle.base.proofs.wire.decoder.BinDecoder.labels_at.Goals as goal
 
 is_found : (found : Option (Bor (List ℕ))) → is_some (labels_now found) ≡ is_some found

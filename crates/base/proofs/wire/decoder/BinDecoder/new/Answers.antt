@@ -4,8 +4,8 @@ use Rattle.std.specs.Ordering.{nat_cmp}
 use Rattle.base.specs.Passing.{IsClosed}
 use Rattle.base.specs.Pointers.{AreKept, Cache, targets_of}
 use Rattle.base.specs.Reader.{begun}
-use Rattle.base.proofs.CountLemmas.{targets_none}
-use Rattle.base.proofs.PassLemmas.{nothing_kept}
+use Rattle.base.proofs.reading.CountLemmas.{targets_none}
+use Rattle.base.proofs.reading.PassLemmas.{nothing_kept}
 use Rattle.base.proofs.wire.decoder.BinDecoder.new.Goals as goal
 
 pub invariant_of-result : goal.invariant_of-result

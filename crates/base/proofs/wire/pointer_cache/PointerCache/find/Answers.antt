@@ -4,7 +4,7 @@ use Rattle.std.specs.FinMap as map
 use Rattle.std.specs.Option.{option_or}
 use Rattle.std.specs.Ordering.{nat_cmp}
 use Rattle.base.specs.Pointers.{Cache, labels_now, target_entries, labels_in, placed}
-use Rattle.base.proofs.CacheLemmas.{get_cache, or_none}
+use Rattle.base.proofs.reading.CacheLemmas.{get_cache, or_none}
 use Rattle.base.proofs.wire.pointer_cache.PointerCache.find.Goals as goal
 
 pub returns-then-self : goal.returns-then-self

@@ -2,7 +2,7 @@ use Rattle.std.proofs.Common.{◌≡◌, ◌∙◌, ℕ, List, None, ap, take}
 use Rattle.std.specs.FinMap as map
 use Rattle.base.specs.declared.wire.pointer_cache.TargetLabels.TheVariants.{Lent}
 use Rattle.base.specs.Pointers.{Cache, cache_of}
-use Rattle.base.proofs.CacheLemmas.{copied_set, first_set}
+use Rattle.base.proofs.reading.CacheLemmas.{copied_set, first_set}
 use Rattle.base.proofs.wire.pointer_cache.PointerCache.insert.Goals as goal
 use Rattle.base.proofs.wire.pointer_cache.PointerCache.insert.Goals.{in-Message, in_default+in_ok-append-in_default}
 

@@ -6,7 +6,7 @@ use Rattle.base.specs.declared.wire.pointer_cache.PointerCache.TheInside.{Inside
 use Rattle.std.specs.Option.{option_or}
 use Rattle.std.specs.Ordering.{nat_cmp}
 use Rattle.base.specs.Pointers.{Cache, cache_of, placed, target_entries}
-use Rattle.base.proofs.CacheLemmas.{get_cache, longer_entries, no_places, others_more, same_found}
+use Rattle.base.proofs.reading.CacheLemmas.{get_cache, longer_entries, no_places, others_more, same_found}
 use Rattle.base.proofs.wire.pointer_cache.PointerCache.insert_place.Goals as goal
 use Rattle.base.proofs.wire.pointer_cache.PointerCache.insert_place.Goals.{then-not-self+in_default, else-not-self}
 

@@ -1,6 +1,6 @@
 use Rattle.std.proofs.Common.{rules, ◌≡◌, ◌∙◌, ap, ◌++◌, ◌∷◌, ◌-◌, ◌+◌, List, ℕ, length, arith}
 use Rattle.std.proofs.lemmas.Result.{err_from_is_err_and}
-use Rattle.base.proofs.CacheLemmas.{copied_inside}
+use Rattle.base.proofs.reading.CacheLemmas.{copied_inside}
 use Rattle.base.proofs.wire.pointer_cache.copied.CopiedLabels.append.Goals as goal
 
 pub returns-then-place-len-le-ROOM-clause-ok : goal.returns-then-place-len-le-ROOM-clause-ok

@@ -14,9 +14,9 @@ use Rattle.base.specs.Pointers.{AreKept, PassLater, PassesThese, targets, target
 use Rattle.base.specs.Names.{NamePart, zero_byte, label_of, pointer_to, part_at}
 use Rattle.base.specs.Passing.{IsClosed, PassesKept, is_among, inserted, passed}
 use Rattle.base.specs.Spelling.{Spelled, ends, label, pointer, target}
-use Rattle.base.proofs.CountLemmas.{contains-inserted, contains-one_more, contains_kept, few_more, inserted-first, same_members}
+use Rattle.base.proofs.reading.CountLemmas.{contains-inserted, contains-one_more, contains_kept, few_more, inserted-first, same_members}
 use Rattle.base.proofs.LawLemmas.{none_is_not}
-use Rattle.base.proofs.WalkLemmas.{part_at-label, part_at-pointer, part_at-root}
+use Rattle.base.proofs.reading.WalkLemmas.{part_at-label, part_at-pointer, part_at-root}
 
 -- ---- sets that hold more
 

@@ -14,7 +14,7 @@ use Rattle.base.specs.Reading.{◌>>=◌, Fails}
 use Rattle.base.specs.Spelling.{ByteAt, anywhere, Spelled}
 use Rattle.base.proofs.LabelLemmas.{IsWire-nil, IsWire-push, AreLabels-append, labels_of-nil, labels_of-push, labels_of_is, wire_of-append, size_of-labels_of}
 use Rattle.base.proofs.ReadingLemmas.{labels_at-part, labels_at-label, labels_again, labels_too_long, length-range, IsRight, labels_right}
-use Rattle.base.proofs.WalkLemmas.{PartIs, is_root, is_label, is_pointer, part_is}
+use Rattle.base.proofs.reading.WalkLemmas.{PartIs, is_root, is_label, is_pointer, part_is}
 
 -- the labels that were read, before those that are read after them
 abbrev pub with_front : List (List ℕ) → Labels → Labels

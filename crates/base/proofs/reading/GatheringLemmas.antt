@@ -19,12 +19,12 @@ use Rattle.base.specs.Tracks.{Tracked}
 use Rattle.base.specs.Pieces.{IsPiece, IsPointed}
 use Rattle.base.specs.Pointers.{AreSpelled, AreTooLong, Followed, IsKept, IsSource, KeepsAt, OfLast, PassLater, PassesThese, targets}
 use Rattle.base.specs.Reader.{Reader}
-use Rattle.base.proofs.CountLemmas.{Follows, Follows-none, Follows-push, IsAfterName, inserted-first, inserted-none}
-use Rattle.base.proofs.GatherLemmas.{Gathers, IsWire-append, at_kept, at_root, gathers_none, gathers_pointer, pointer_refused, spelled_is}
-use Rattle.base.proofs.PassLemmas.{Lead, Lead-kept, Lead-pointer, Lead-root, Leads, Leads-kept, Leads-none, Leads-pointer, Leads-root, later_at, new_at, passes_are_kept}
+use Rattle.base.proofs.reading.CountLemmas.{Follows, Follows-none, Follows-push, IsAfterName, inserted-first, inserted-none}
+use Rattle.base.proofs.reading.GatherLemmas.{Gathers, IsWire-append, at_kept, at_root, gathers_none, gathers_pointer, pointer_refused, spelled_is}
+use Rattle.base.proofs.reading.PassLemmas.{Lead, Lead-kept, Lead-pointer, Lead-root, Leads, Leads-kept, Leads-none, Leads-pointer, Leads-root, later_at, new_at, passes_are_kept}
 use Rattle.base.proofs.TrackLemmas.{tracked_name}
-use Rattle.base.proofs.PieceLemmas.{gathers_piece, lead_piece, leads_piece, part_is_there}
-use Rattle.base.proofs.TailLemmas.{Ends, Tail, Tail-kept, Tail-new, Tail-piece, Tail-pointer, Tail-root}
+use Rattle.base.proofs.reading.PieceLemmas.{gathers_piece, lead_piece, leads_piece, part_is_there}
+use Rattle.base.proofs.reading.TailLemmas.{Ends, Tail, Tail-kept, Tail-new, Tail-piece, Tail-pointer, Tail-root}
 
 -- ---- the labels that the last pointer led to
 

@@ -5,8 +5,8 @@ use Rattle.base.specs.declared.name.reading.FollowedPointer.{FollowedPointer}
 use Rattle.base.specs.Pointers.{IsKept}
 use Rattle.base.specs.Names.{zero_byte, pointer_to, part_at}
 use Rattle.base.specs.Pieces.{LabelsUpTo}
-use Rattle.base.proofs.PieceLemmas.{gathers_piece}
-use Rattle.base.proofs.GatherLemmas.{Gathers, gathers_none, gathers_pointer, at_root, at_kept, spelled_is, IsWire-append}
+use Rattle.base.proofs.reading.PieceLemmas.{gathers_piece}
+use Rattle.base.proofs.reading.GatherLemmas.{Gathers, gathers_none, gathers_pointer, at_root, at_kept, spelled_is, IsWire-append}
 
 -- what was gathered since a pointer, before what is read from at on, are the labels after it
 pub record Tail (buffer : List ℕ) (start at used : ℕ) (bytes : List ℕ) (p : FollowedPointer) : Type 0 where

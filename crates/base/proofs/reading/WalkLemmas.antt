@@ -32,13 +32,13 @@ part_is bytes i =
     cond_both (nat_le (length bytes) i) _ _ P (λ h. is_past (leb-true (length bytes) i h)) (λ h1.
     let here : ByteAt anywhere bytes i b = byte bytes i b (leb-false (length bytes) i h1) refl in
     cond_both (b == 0) _ _ P (λ h. is_root (byte bytes i 0 here.inside (eqb-true b 0 h))) (λ h2.
-    cond_both (nat_lt b 64) _ _ P
+    cond_both (nat_le b 63) _ _ P
     (λ h3. let some : 1 ≤ b = grind (arith, eqb-false b 0 h2) in
-    let small : b ≤ 63 = omega (arith, ltb-true b 64 h3) in
+    let small : b ≤ 63 = leb-true b 63 h3 in
     cond_both (nat_lt (length bytes) (i + 1 + b)) _ _ P
     (λ h4. is_cut_label here some small (ltb-true (length bytes) (i + 1 + b) h4))
     (λ h4. is_label here some small (ltb-false (length bytes) (i + 1 + b) h4)))
-    (λ h3. cond_both (nat_lt b 192) _ _ P (λ h4. is_bits here (ltb-false b 64 h3) (ltb-true b 192 h4)) (λ h4.
+    (λ h3. cond_both (nat_lt b 192) _ _ P (λ h4. is_bits here (leb-false b 63 h3) (ltb-true b 192 h4)) (λ h4.
     let high : 192 ≤ b = ltb-false b 192 h4 in
     cond_both (nat_le (length bytes) (i + 1)) _ _ P
     (λ h5. is_cut_pointer here high (leb-true (length bytes) (i + 1) h5))

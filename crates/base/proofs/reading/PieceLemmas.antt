@@ -17,10 +17,10 @@ use Rattle.base.specs.Passing.{IsClosed}
 use Rattle.base.specs.Reader.{Reader}
 use Rattle.base.specs.declared.error.decode_error.DecodeError.{DecodeError}
 use Rattle.base.specs.declared.error.decode_error.DecodeError.TheVariants as faults
-use Rattle.base.proofs.GatherLemmas.{Gathers, IsWire-append, at_fault, at_kept, at_long, at_root, gathers_label, gathers_none, kept_end, pointer_refused, root_inside}
-use Rattle.base.proofs.PassLemmas.{Lead, Leads, Leads-kept, Leads-label, Leads-none, Leads-root}
-use Rattle.base.proofs.WalkLemmas.{PartIs, is_past, is_root, is_cut_label, is_label, is_bits, is_cut_pointer, is_pointer, part_is}
-use Rattle.base.proofs.WalkLemmas.{part_at-past, part_at-root, part_at-cut_label, part_at-label, part_at-bits, part_at-cut_pointer, part_at-pointer}
+use Rattle.base.proofs.reading.GatherLemmas.{Gathers, IsWire-append, at_fault, at_kept, at_long, at_root, gathers_label, gathers_none, kept_end, pointer_refused, root_inside}
+use Rattle.base.proofs.reading.PassLemmas.{Lead, Leads, Leads-kept, Leads-label, Leads-none, Leads-root}
+use Rattle.base.proofs.reading.WalkLemmas.{PartIs, is_past, is_root, is_cut_label, is_label, is_bits, is_cut_pointer, is_pointer, part_is}
+use Rattle.base.proofs.reading.WalkLemmas.{part_at-past, part_at-root, part_at-cut_label, part_at-label, part_at-bits, part_at-cut_pointer, part_at-pointer}
 
 -- ---- what stands at a place of a piece stands in the buffer
 
