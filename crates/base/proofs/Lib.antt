@@ -8,8 +8,6 @@ pub mod EscapeLemmas
 pub mod FittingLemmas
 pub mod Giving
 pub mod ItemLemmas
-pub mod JoinLemmas
-pub mod JoinedLaw
 pub mod KeyLemmas
 pub mod LabelLemmas
 pub mod LawLemmas

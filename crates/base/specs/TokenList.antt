@@ -1,7 +1,6 @@
 -- All tokens of a text, one after the other (RFC 1035, 5.1).
-use Rattle.std.specs.Prelude.{◌≡◌, ℕ, zero, suc, true, false, List, [], ◌∷◌, length, Option, Some, None}
-use Rattle.std.specs.List.{last_or}
-use Rattle.base.specs.Tokens.{Next, TokenValue, Unread, ends, eol, faulty, is_line_end, next, token}
+use Rattle.std.specs.Prelude.{ℕ, zero, suc, true, false, List, [], ◌∷◌, length, Option, Some, None}
+use Rattle.base.specs.Tokens.{Next, TokenValue, Unread, ends, faulty, next, token}
 
 -- what was found, before all that comes after it
 abbrev pub followed : {S A : Type 0} → (S → List A) → Option (A × S) → List A
@@ -36,11 +35,3 @@ symbols unread = listing next_symbol (length unread.text) unread
 -- a text of which nothing is read yet
 abbrev pub whole_text : List ℕ → Unread
 whole_text text = record { text = text; at_line_start = true }
-
--- A text that ends with the end of a line: its last byte is a line feed or a carriage return, and its last token the
--- end of a line. So the byte stands in no parentheses and no quotes, and no backslash keeps it (RFC 1035, 5.1).
-pub record EndsWithALine (text : List ℕ) : Type 0 where
-  pub byte : ℕ
-  pub last : last_or None text ≡ Some byte
-  pub ends_line : is_line_end byte ≡ true
-  pub closed : last_or None (symbols (whole_text text)) ≡ Some (symbol eol)

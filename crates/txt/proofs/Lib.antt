@@ -1,6 +1,5 @@
 pub mod Gathering
 pub mod BlockLemmas
-pub mod Joined
 pub mod KeptSets
 pub mod SetsInOrder
 pub mod Stack

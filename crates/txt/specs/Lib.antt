@@ -4,5 +4,4 @@ pub mod Parser
 pub mod Run
 pub mod Steps
 pub mod Zone
-pub mod ZoneLaws
 pub mod ZoneSets

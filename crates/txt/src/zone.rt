@@ -7,7 +7,6 @@ ghost use Rattle.txt.specs.Parser.{named_texts, text_among};
 ghost use Rattle.txt.specs.ZoneSets.{AreKeyed};
 
 mod context;
-pub mod laws;
 mod run;
 pub mod sets;
 mod texts;

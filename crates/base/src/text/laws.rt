@@ -1,9 +1,9 @@
 //! Laws of the tokens of zone text.
 
 ghost use Rattle.std.specs.Prelude.{ℕ, List, Some, length, false, ◌∷◌, ◌++◌, ◌≡◌, ◌↔◌};
-ghost use Rattle.base.specs.TokenList.{EndsWithALine, followed, next_symbol, symbols, whole_text};
+ghost use Rattle.base.specs.TokenList.{followed, next_symbol, symbols};
 ghost use Rattle.base.specs.TokenText.{EndsItem, IsItem, IsList, IsQuoted};
-ghost use Rattle.base.specs.Tokens.{Unread, item, list_items, past_line_end, quoted};
+ghost use Rattle.base.specs.Tokens.{Unread, item, list_items, quoted};
 ghost use Rattle.base.specs.Ttl.{ttl_of};
 ghost use Rattle.base.specs.TtlText.{IsTtlText};
 
@@ -12,15 +12,6 @@ ghost use Rattle.base.specs.TtlText.{IsTtlText};
 /// exactly this list.
 pub fn tokens_come_in_turn()
     ensures { (unread : Unread) → symbols unread ≡ followed symbols (next_symbol unread) }
-{}
-
-/// The tokens of two texts one after another, the first of which ends with the end of a line, are those of the
-/// one and then those of the other. A carriage return that ends the first and a line feed that begins the second
-/// are the end of one line, and its token is the first one's (RFC 1035, 5.1).
-pub fn tokens_of_texts_in_turn()
-    ensures { (a b : List ℕ) (e : EndsWithALine a) →
-        symbols (whole_text (a ++ b))
-        ≡ symbols (whole_text a) ++ symbols (whole_text (past_line_end e.byte b)) }
 {}
 
 /// What an item, a quoted text and a list are: what is cut off a text is one of that shape, and where a text begins
