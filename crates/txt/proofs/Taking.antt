@@ -11,7 +11,6 @@ use Rattle.std.proofs.lemmas.List.{append-nil}
 use Rattle.base.specs.Cuts.{AnswersNext, Faults, Stays}
 use Rattle.base.specs.Labels.{NameValue}
 use Rattle.base.specs.NameOf.{name_of}
-use Rattle.base_data.specs.Kinds.{data_of}
 use Rattle.base_data.specs.declared.rdata.RData.{RData}
 use Rattle.base.specs.TextFaults.{FailsWith, Fault, bad_ttl, lexer, says, unexpected}
 use Rattle.base.specs.TokenList.{Symbol, broken, followed, listing, symbol, symbol_of, symbols}
@@ -19,7 +18,7 @@ use Rattle.base.specs.Tokens.{Next, Unread, at, blank, char_data, eol, include, 
 use Rattle.base.specs.Ttl.{ttl_of}
 use Rattle.txt.specs.Entries.{Setting, Stop, first_entry, first_items, line_of, refused, setting_of, stop_of, whole}
 use Rattle.txt.specs.Steps.{ReadsToken, ended, opens, taken, took_default, took_include, took_include_end, took_items, took_line, took_named, took_origin, took_typed, took_words, went, went_on}
-use Rattle.txt.specs.Zone.{ZoneState, apply, carried, recorded, set_by, settled, stopped, type_named, ◌>>=◌}
+use Rattle.txt.specs.Zone.{ZoneState, apply, carried, recorded, set_by, settled, stopped, type_in, data_in, ◌>>=◌}
 use Rattle.base.specs.declared.record_type.RecordType.{RecordType}
 use Rattle.base.specs.declared.text.token.Token.{Token}
 use Rattle.base.specs.declared.text.token.Token.TheVariants as tokens
@@ -201,33 +200,33 @@ pub after_fails : (from : List Symbol) {all : Result (List (List ℕ) × List Sy
 after_fails from front fault left is = sym left ∙ ap (after front) is
 
 typed-is : (s : ZoneState) (word : List ℕ) (from : List Symbol)
-    → took_typed s word from ≡ (type_named word >>= λ type. took_items from >>= λ read. data_of type read.0 s.origin >>= λ said. recorded s said >>= λ t. Ok (went t read.1))
+    → took_typed s word from ≡ (type_in s word >>= λ type. took_items from >>= λ read. data_in s type read.0 >>= λ said. recorded s said >>= λ t. Ok (went t read.1))
 unfolding took_typed took_items
-typed-is s word from = go (type_named word) (stop_of (first_items from).1).0 where
+typed-is s word from = go (type_in s word) (stop_of (first_items from).1).0 where
   made : (said : Result RData Fault) (rest : List Symbol) → went_on (said >>= λ d. recorded s d) rest ≡ (said >>= λ d. recorded s d >>= λ t. Ok (went t rest))
   made (Ok d) rest = refl
   made (Err fault) rest = refl
 
   go : (a : Result RecordType Fault) (stop : Stop)
-      → went_on (a >>= λ type. stopped stop (first_items from).0 >>= λ words. data_of type words s.origin >>= λ said. recorded s said) (stop_of (first_items from).1).1
+      → went_on (a >>= λ type. stopped stop (first_items from).0 >>= λ words. data_in s type words >>= λ said. recorded s said) (stop_of (first_items from).1).1
       ≡ (a >>= λ type. stopped {A = List (List ℕ) × List Symbol} stop ((first_items from).0, (stop_of (first_items from).1).1)
-      >>= λ read. data_of type read.0 s.origin >>= λ said. recorded s said >>= λ t. Ok (went t read.1))
+      >>= λ read. data_in s type read.0 >>= λ said. recorded s said >>= λ t. Ok (went t read.1))
   go (Err fault) stop = refl
   go (Ok type) (refused fault) = refl
-  go (Ok type) whole = made (data_of type (first_items from).0 s.origin) (stop_of (first_items from).1).1
+  go (Ok type) whole = made (data_in s type (first_items from).0) (stop_of (first_items from).1).1
 
-pub typed_unnamed : (s : ZoneState) (word : List ℕ) (from : List Symbol) (fault : Fault) → type_named word ≡ Err fault → took_typed s word from ≡ Err fault
+pub typed_unnamed : (s : ZoneState) (word : List ℕ) (from : List Symbol) (fault : Fault) → type_in s word ≡ Err fault → took_typed s word from ≡ Err fault
 typed_unnamed s word from fault is = rw (typed-is s word from, is)
 
-pub typed_stopped : (s : ZoneState) (word : List ℕ) (from : List Symbol) (type : RecordType) (fault : Fault) → type_named word ≡ Ok type → took_items from ≡ Err fault → took_typed s word from ≡ Err fault
+pub typed_stopped : (s : ZoneState) (word : List ℕ) (from : List Symbol) (type : RecordType) (fault : Fault) → type_in s word ≡ Ok type → took_items from ≡ Err fault → took_typed s word from ≡ Err fault
 typed_stopped s word from type fault named is = rw (typed-is s word from, named, is)
 
 pub typed_unsaid : (s : ZoneState) (word : List ℕ) (from : List Symbol) (type : RecordType) (items : List (List ℕ)) (to : List Symbol) (fault : Fault)
-    → type_named word ≡ Ok type → took_items from ≡ Ok (items, to) → data_of type items s.origin ≡ Err fault → took_typed s word from ≡ Err fault
+    → type_in s word ≡ Ok type → took_items from ≡ Ok (items, to) → data_in s type items ≡ Err fault → took_typed s word from ≡ Err fault
 typed_unsaid s word from type items to fault named read is = rw (typed-is s word from, named, read, is)
 
 pub typed_said : (s : ZoneState) (word : List ℕ) (from : List Symbol) (type : RecordType) (items : List (List ℕ)) (to : List Symbol) (said : RData)
-    → type_named word ≡ Ok type → took_items from ≡ Ok (items, to) → data_of type items s.origin ≡ Ok said → took_typed s word from ≡ went_on (recorded s said) to
+    → type_in s word ≡ Ok type → took_items from ≡ Ok (items, to) → data_in s type items ≡ Ok said → took_typed s word from ≡ went_on (recorded s said) to
 typed_said s word from type items to said named read is = rw (typed-is s word from, named, read, is)
 
 pub taken_origin : {from to : List Symbol} (s : ZoneState) → from ≡ symbol origin_sign ∷ to → taken s from ≡ took_origin s to

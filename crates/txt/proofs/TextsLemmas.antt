@@ -13,7 +13,7 @@ use Rattle.base.specs.TextFaults.{FailsWith, Gives}
 use Rattle.base.specs.declared.error.parse_error.ParseError.{ParseError}
 use Rattle.txt.specs.Parser.{ParserValue, named_texts, text_among}
 use Rattle.txt.specs.Steps.{texts_in}
-use Rattle.txt.specs.Zone.{ZoneState, Texts, parsed_of, answered, beginning, folded_text, zone_of}
+use Rattle.txt.specs.Zone.{ZoneState, Texts, parsed_of, answered, beginning, folded_text, zone_by}
 use Rattle.txt.specs.ZoneSets.{ZoneSets}
 
 found : (name : List ℕ) (es : List (String Global × String Global))
@@ -34,24 +34,24 @@ pub texts_are : (includes : BTreeMap (String Global) (String Global)) → texts_
 texts_are includes = λ i name. found name includes.entries i
 
 -- the zone of a parser, by what its fields hold
-unfolded : (p : ParserValue) (text : List ℕ) (includes : BTreeMap (String Global) (String Global)) (origin : Option NameValue) (start : ZoneState)
-    → p ≡ record { text = text; includes = named_texts includes; origin = origin } → start ≡ beginning origin
-    → zone_of (text_among p.includes) p.origin p.text ≡ parsed_of (folded_text (texts_in includes) start text)
-unfolded p text includes origin start is begins =
-    ap (λ (q : ParserValue). zone_of (text_among q.includes) q.origin q.text) is
-    ∙ ap (λ (texts : Texts). parsed_of (folded_text texts (beginning origin) text)) (sym (texts_are includes))
+unfolded : (p : ParserValue) (text : List ℕ) (includes : BTreeMap (String Global) (String Global)) (origin : Option NameValue) (start : ZoneState) (generic : Bool)
+    → p ≡ record { text = text; includes = named_texts includes; origin = origin } → start ≡ beginning generic origin
+    → zone_by generic (text_among p.includes) p.origin p.text ≡ parsed_of (folded_text (texts_in includes) start text)
+unfolded p text includes origin start generic is begins =
+    ap (λ (q : ParserValue). zone_by generic (text_among q.includes) q.origin q.text) is
+    ∙ ap (λ (texts : Texts). parsed_of (folded_text texts (beginning generic origin) text)) (sym (texts_are includes))
     ∙ ap (λ (s : ZoneState). parsed_of (folded_text (texts_in includes) s text)) (sym begins)
 
 -- what is answered after all entries is the answer
-pub parsed : {X : Type 0} {p : ParserValue} {text : List ℕ} {origin : Option NameValue} {start t : ZoneState} (view : X → NameValue × ZoneSets) (result : Result X ParseError)
-    (includes : BTreeMap (String Global) (String Global)) → p ≡ record { text = text; includes = named_texts includes; origin = origin } → start ≡ beginning origin
-    → folded_text (texts_in includes) start text ≡ Ok t → Gives view result (answered t) → Gives view result (zone_of (text_among p.includes) p.origin p.text)
-parsed {p = p} {text = text} {origin = origin} {start = start} view result includes is begins folded answers =
-    subst (Gives view result) (sym (unfolded p text includes origin start is begins ∙ ap parsed_of folded)) answers
+pub parsed : {X : Type 0} {p : ParserValue} {text : List ℕ} {origin : Option NameValue} {start t : ZoneState} {generic : Bool} (view : X → NameValue × ZoneSets) (result : Result X ParseError)
+    (includes : BTreeMap (String Global) (String Global)) → p ≡ record { text = text; includes = named_texts includes; origin = origin } → start ≡ beginning generic origin
+    → folded_text (texts_in includes) start text ≡ Ok t → Gives view result (answered t) → Gives view result (zone_by generic (text_among p.includes) p.origin p.text)
+parsed {p = p} {text = text} {origin = origin} {start = start} {generic = generic} view result includes is begins folded answers =
+    subst (Gives view result) (sym (unfolded p text includes origin start generic is begins ∙ ap parsed_of folded)) answers
 
 -- what the entries are refused for is what the text is refused for
-pub not_parsed : {p : ParserValue} {text : List ℕ} {origin : Option NameValue} {start : ZoneState} (includes : BTreeMap (String Global) (String Global)) (e : ParseError)
-    → p ≡ record { text = text; includes = named_texts includes; origin = origin } → start ≡ beginning origin
-    → FailsWith e (folded_text (texts_in includes) start text) → FailsWith e (zone_of (text_among p.includes) p.origin p.text)
-not_parsed {p} {text} {origin} {start} includes e is begins fails =
-    Fails-through e (λ fault here. unfolded p text includes origin start is begins ∙ ap parsed_of here) fails
+pub not_parsed : {p : ParserValue} {text : List ℕ} {origin : Option NameValue} {start : ZoneState} {generic : Bool} (includes : BTreeMap (String Global) (String Global)) (e : ParseError)
+    → p ≡ record { text = text; includes = named_texts includes; origin = origin } → start ≡ beginning generic origin
+    → FailsWith e (folded_text (texts_in includes) start text) → FailsWith e (zone_by generic (text_among p.includes) p.origin p.text)
+not_parsed {p} {text} {origin} {start} {generic} includes e is begins fails =
+    Fails-through e (λ fault here. unfolded p text includes origin start generic is begins ∙ ap parsed_of here) fails

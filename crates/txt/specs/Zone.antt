@@ -1,6 +1,6 @@
 -- The zone of a text: a fold over its entries and those of the texts that it includes (RFC 1035, 5.1).
 use Rattle.std.specs.Option.{ok_or}
-use Rattle.std.specs.Prelude.{ℕ, zero, suc, true, false, List, [], ◌∷◌, Option, Some, None, Result, Ok, Err, codes, option_map}
+use Rattle.std.specs.Prelude.{ℕ, Bool, zero, suc, true, false, if◌then◌else◌, List, [], ◌∷◌, Option, Some, None, Result, Ok, Err, codes, option_map}
 use Rattle.std.specs.Str.{str_to_ascii_uppercase}
 use Rattle.base.specs.Labels.{NameValue}
 use Rattle.base.specs.NameOf.{name_of}
@@ -11,6 +11,7 @@ use Rattle.base.specs.Ttl.{ttl_of}
 use Rattle.base.specs.declared.dns_class.DNSClass.{DNSClass}
 use Rattle.base.specs.declared.dns_class.DNSClass.TheVariants as classes
 use Rattle.base.specs.declared.record_type.RecordType.{RecordType}
+use Rattle.base_data.specs.Generic.{any_data, any_type}
 use Rattle.base_data.specs.Kinds.{data_of}
 use Rattle.base_data.specs.declared.rdata.RData.{RData}
 use Rattle.rr.specs.declared.record.Record.{Record}
@@ -40,8 +41,10 @@ use Rattle.txt.specs.Entries.{
 use Rattle.txt.specs.ZoneSets.{ZoneSets, sets_with}
 
 -- What is in force after an entry: the origin, the last stated owner, class and TTL (RFC 1035, 5.1), the default TTL
--- (RFC 2308, 4), a TTL that was stated and no record has yet; and the sets so far.
+-- (RFC 2308, 4), a TTL that was stated and no record has yet; and the sets so far. Also whether types and data may stand
+-- in the generic form (RFC 3597, 5), which no entry changes.
 pub record ZoneState : Type 0 where
+  pub generic : Bool
   pub origin : Option NameValue
   pub owner : Option NameValue
   pub dns_class : DNSClass
@@ -67,6 +70,17 @@ abbrev pub type_named : List ℕ → Result RecordType Fault
 type_named word =
     ok_or (type_from_text (str_to_ascii_uppercase word))
     (unknown_type (str_to_ascii_uppercase word))
+
+-- the same, or where the generic form may stand, by its number too
+abbrev pub type_in : ZoneState → List ℕ → Result RecordType Fault
+type_in s word = if s.generic
+    then ok_or (any_type (str_to_ascii_uppercase word)) (unknown_type (str_to_ascii_uppercase word))
+    else type_named word
+
+-- the data of a type that items name under the origin in force, or where the generic form may stand, in that form too
+abbrev pub data_in : ZoneState → RecordType → List (List ℕ) → Result RData Fault
+data_in s type items = if s.generic then any_data type items s.origin
+    else data_of type items s.origin
 
 -- the owner in force
 abbrev pub owner_in : ZoneState → Result NameValue Fault
@@ -133,7 +147,7 @@ settled s (setting ∷ settings) = settled (set_by s setting) settings
 abbrev pub carried : ZoneState → Body → Result ZoneState Fault
 carried s (untyped stop) = stopped stop s
 carried s (typed word items stop) =
-    type_named word >>= λ type. stopped stop items >>= λ words. data_of type words s.origin
+    type_in s word >>= λ type. stopped stop items >>= λ words. data_in s type words
     >>= λ rdata. recorded s rdata
 
 -- the owner of a line: a name, the origin, or the last owner
@@ -200,9 +214,10 @@ unfoldable pub folded_text : Texts → ZoneState → List ℕ → Result ZoneSta
 folded_text texts s text = fold (included texts max_depth) s (entries_of (whole_text text))
 
 -- what is in force before the first entry; the origin is made absolute
-abbrev pub beginning : Option NameValue → ZoneState
-beginning name =
+abbrev pub beginning : Bool → Option NameValue → ZoneState
+beginning generic name =
     record {
+      generic = generic;
       origin = option_map absolute name;
       owner = None;
       dns_class = classes.IN;
@@ -220,6 +235,17 @@ answered s = ok_or s.origin (says (codes "$ORIGIN was not specified")) >>= λ na
 abbrev pub parsed_of : Result ZoneState Fault → Result (NameValue × ZoneSets) Fault
 parsed_of made = made >>= λ s. answered s
 
--- the zone of a text, where these texts may be included and an origin may be given
+-- the zone of a text, where these texts may be included and an origin may be given, and the generic form may stand or
+-- may not
+abbrev pub zone_by : Bool → Texts → Option NameValue → List ℕ
+    → Result (NameValue × ZoneSets) Fault
+zone_by generic texts origin text = parsed_of (folded_text texts (beginning generic origin) text)
+
+-- the zone of a text without the generic form
 abbrev pub zone_of : Texts → Option NameValue → List ℕ → Result (NameValue × ZoneSets) Fault
-zone_of texts origin text = parsed_of (folded_text texts (beginning origin) text)
+zone_of = zone_by false
+
+-- the zone of a text in which types and data may stand in the generic form (RFC 3597, 5)
+abbrev pub generic_zone_of : Texts → Option NameValue → List ℕ
+    → Result (NameValue × ZoneSets) Fault
+generic_zone_of = zone_by true

@@ -2,7 +2,7 @@
 
 ghost use Rattle.std.specs.Prelude.{IfOk, ◌≡◌};
 ghost use Rattle.base.specs.TextFaults.{Gives};
-ghost use Rattle.txt.specs.Zone.{parsed_of, beginning, folded_text, zone_of};
+ghost use Rattle.txt.specs.Zone.{generic_zone_of, zone_by, zone_of};
 ghost use Rattle.txt.specs.Parser.{named_texts, text_among};
 ghost use Rattle.txt.specs.ZoneSets.{AreKeyed};
 
@@ -98,13 +98,38 @@ impl<'a> Parser<'a> {
         ensures { Gives (λ r. r) result
             (zone_of (text_among self.entry.includes) self.entry.origin self.entry.text) }
     {
+        self.read_sets(false)
+    }
+
+    /// The zone that the entries define where types and data may also stand in the generic form (RFC 3597, 5): a type as
+    /// `TYPE` and its number (`parse_type`), and data of any type after `\#` (`RData::from_any_items`).
+    ///
+    /// # Errors
+    ///
+    /// Those of `parse`.
+    pub fn parse_generic(self) -> Result<(Name, BTreeMap<RrKey, RecordSet>), ParseError>
+        // The zone or the fault is that of the definition `generic_zone_of`, unless memory runs out.
+        ensures zone { Gives (λ r. (r.0, r.1.entries)) result
+            (generic_zone_of (text_among self.entry.includes) self.entry.origin self.entry.text) }
+        // Each set stands under the key of its owner and type, has a record and is tidy.
+        ensures kept { IfOk result (λ r. AreKeyed r.1.entries) }
+    {
+        let (origin, sets) = self.read_sets(true)?;
+        Ok((origin, sets.into_map()?))
+    }
+
+    /// The origin and the sets, where the generic form may stand or may not.
+    fn read_sets(self, generic: bool) -> Result<(Name, ZoneSets), ParseError>
+        ensures { Gives (λ r. r) result
+            (zone_by generic (text_among self.entry.includes) self.entry.origin self.entry.text) }
+    {
         let Parser {
             alloc,
             text,
             includes,
             origin,
         } = self;
-        let mut context = Context::new(alloc, origin);
+        let mut context = Context::new(alloc, origin, generic);
         read_texts(alloc, text, includes, &mut context)?;
         context.answer()
     }

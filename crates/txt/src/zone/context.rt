@@ -4,18 +4,17 @@ ghost use Rattle.base.specs.NameOf.{name_of};
 ghost use Rattle.base.specs.TextFaults.{Gives};
 ghost use Rattle.base.specs.TokenList.{symbols};
 ghost use Rattle.base.specs.Tokens.{texts};
-ghost use Rattle.base_data.specs.Kinds.{data_of};
 ghost use Rattle.base_data.specs.declared.rdata.RData.{RData};
 ghost use Rattle.std.specs.Prelude.{IfErr, IfOk, List, None, Ok, OnOk, Some, false, map, ℕ, ◌≡◌};
 ghost use Rattle.std.specs.Str.{str_to_ascii_uppercase};
 ghost use Rattle.std.specs.String.{string_bytes};
 ghost use Rattle.txt.specs.Entries.{setting_of};
 ghost use Rattle.txt.specs.Steps.{AnswersStep, Goes, MakesState, ReadsSymbols, ReadsToken, Takes, setting_value, took_at, took_default, took_include, took_include_end, took_items, took_named, took_origin, took_typed, took_words};
-ghost use Rattle.txt.specs.Zone.{ZoneState, absolute, answered, beginning, record_of, recorded, set_by, spent, type_named, state_with};
+ghost use Rattle.txt.specs.Zone.{ZoneState, absolute, answered, beginning, data_in, record_of, recorded, set_by, spent, type_in, state_with};
 
 use crate::zone::sets::ZoneSets;
 use base::{DNSClass, Lexer, Name, ParseError, RecordType, Token, parse_ttl};
-use base_data::RData;
+use base_data::{RData, parse_type};
 use rr::Record;
 use std::alloc::{AllocError, Global};
 use std::marker::Model;
@@ -25,6 +24,8 @@ use std::mem::replace;
 #[derive(Drop)]
 pub(super) struct Context {
     alloc: Global,
+    /// Whether types and data may stand in the generic form (RFC 3597, 5).
+    generic: bool,
     origin: Option<Name>,
     owner: Option<Name>,
     dns_class: DNSClass,
@@ -43,6 +44,7 @@ impl Model for Context {
 
     ghost view = { λ c.
         record {
+          generic = c.generic;
           origin = c.origin;
           owner = c.owner;
           dns_class = c.dns_class;
@@ -75,11 +77,12 @@ enum Setting {
 
 impl Context {
     /// What is in force before the first entry; the origin is made absolute. Takes no memory.
-    pub(super) fn new(alloc: Global, origin: Option<Name>) -> Context
-        ensures { result ≡ beginning origin }
+    pub(super) fn new(alloc: Global, origin: Option<Name>, generic: bool) -> Context
+        ensures { result ≡ beginning generic origin }
     {
         Context {
             alloc,
+            generic,
             origin: origin.map(make_absolute),
             owner: None,
             dns_class: DNSClass::IN,
@@ -231,7 +234,7 @@ impl Context {
             → Goes result self.new (symbols lexer.new)
             (took_typed self.old word (symbols lexer.old)) }
     {
-        let record_type = type_of_text(raised)?;
+        let record_type = self.type_of_text(raised)?;
         let mut items = replace(&mut self.items, Vec::new(self.alloc));
         read_items(&mut items, lexer)?;
         let rdata = self.parse_data(record_type, &items)?;
@@ -240,9 +243,23 @@ impl Context {
         Ok(())
     }
 
+    /// The type that a text in upper case names.
+    fn type_of_text(&self, raised: String) -> Result<RecordType, ParseError>
+        ensures { (word : List ℕ) → string_bytes raised ≡ str_to_ascii_uppercase word
+            → Gives (λ t. t) result (type_in self.now word) }
+    {
+        if self.generic {
+            return parse_type(raised);
+        }
+        match RecordType::from_text(raised.as_str()) {
+            Some(record_type) => Ok(record_type),
+            None => Err(ParseError::UnknownRecordType(raised)),
+        }
+    }
+
     /// The data of a type that items name, under the origin.
     fn parse_data(&self, record_type: RecordType, items: &[String]) -> Result<RData, ParseError>
-        ensures { Gives (λ d. d) result (data_of record_type (texts items.now) self.now.origin) }
+        ensures { Gives (λ d. d) result (data_in self.now record_type (texts items.now)) }
     {
         // The data of most records is one item, which needs no list of its own.
         if let [item] = items {
@@ -255,9 +272,13 @@ impl Context {
     /// The data of a type that texts name, under the origin.
     fn data_of(&self, record_type: RecordType, items: &[&str]) -> Result<RData, ParseError>
         ensures { Gives (λ d. d) result
-            (data_of record_type (map (λ item. item.now) items.now) self.now.origin) }
+            (data_in self.now record_type (map (λ item. item.now) items.now)) }
     {
-        RData::from_items(self.alloc, record_type, items, self.origin.as_ref())
+        let origin = self.origin.as_ref();
+        if self.generic {
+            return RData::from_any_items(self.alloc, record_type, items, origin);
+        }
+        RData::from_items(self.alloc, record_type, items, origin)
     }
 
     /// Makes a record of data, with what is in force.
@@ -407,17 +428,6 @@ fn setting_of(word: String) -> Result<Setting, String>
     match DNSClass::from_text(raised.as_str()) {
         Some(dns_class) => Ok(Setting::Class(dns_class)),
         None => Err(raised),
-    }
-}
-
-/// The type that a text in upper case names.
-fn type_of_text(raised: String) -> Result<RecordType, ParseError>
-    ensures { (word : List ℕ) → string_bytes raised ≡ str_to_ascii_uppercase word
-        → Gives (λ t. t) result (type_named word) }
-{
-    match RecordType::from_text(raised.as_str()) {
-        Some(record_type) => Ok(record_type),
-        None => Err(ParseError::UnknownRecordType(raised)),
     }
 }
 

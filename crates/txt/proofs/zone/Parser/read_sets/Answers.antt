@@ -1,7 +1,7 @@
 use Rattle.std.proofs.Common.{sym}
 use Rattle.std.proofs.lemmas.Result.{err_from_is_err_and}
 use Rattle.txt.proofs.TextsLemmas.{not_parsed, parsed}
-use Rattle.txt.proofs.zone.Parser.parse_sets.Goals as goal
+use Rattle.txt.proofs.zone.Parser.read_sets.Goals as goal
 
 pub returns-in_err-read_texts : goal.returns-in_err-read_texts
 returns-in_err-read_texts c =
