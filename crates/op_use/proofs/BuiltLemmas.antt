@@ -1,7 +1,6 @@
 -- Updates that are built fit the wire, and uncut bytes of them are read as the same sections.
 use Rattle.std.proofs.Common.{◌≡◌, ◌≢◌, ℕ, Bool, true, false, List, [], ◌∷◌, ◌++◌, refl, ap, sym, ◌∙◌, subst, arith, Result, Ok, Err, map}
-use Rattle.std.specs.Option.{option_map}
-use Rattle.std.specs.Prelude.{All, IfOk, None, Option, Some}
+use Rattle.std.specs.Prelude.{All, IfOk}
 use Rattle.std.specs.List.{AllByRecursion}
 use Rattle.std.proofs.lemmas.Bool.{true≢false}
 use Rattle.std.proofs.lemmas.List.{append-nil}
@@ -14,7 +13,6 @@ use Rattle.base.specs.declared.record_type.RecordType.{RecordType}
 use Rattle.base.specs.declared.record_type.RecordType.TheVariants as types
 use Rattle.base_data.specs.Kinds.{type_of_data}
 use Rattle.base_data.specs.declared.rdata.RData.{RData}
-use Rattle.base_data.specs.declared.rdata.soa.SOA.{SOA}
 use Rattle.rr.specs.Record.{FitsRecord, is_opt_type}
 use Rattle.rr.specs.RecordSet.{SetValue}
 use Rattle.rr.specs.declared.record.Record.{Record}
@@ -26,9 +24,9 @@ use Rattle.op.specs.Section.{is_additional_type}
 use Rattle.op.specs.declared.op_code.OpCode.TheVariants as op_codes
 use Rattle.op.specs.declared.response_code.ResponseCode.{ResponseCode}
 use Rattle.op.proofs.MessageStands.{one_message}
-use Rattle.op_use.specs.SoundSet.{IsSendable, IsSendableKey, IsSendableOwner, IsSendableSoa, IsSent, IsSentClass, IsSound, is_supported_type}
+use Rattle.op_use.specs.SoundSet.{IsSendable, IsSendableKey, IsSendableOwner, IsSent, IsSentClass, IsSound, is_supported_type}
 use Rattle.op_use.specs.UpdateMeaning.{AppendsToSet, CreatesSet, DeletesData, DeletesName, DeletesSet, MeansUncut, SwapsSets}
-use Rattle.op_use.specs.UpdateMessage.{append, compare_and_swap, create, delete_all, delete_by_rdata, delete_rrset, empty_record, untimed_in, sections, soa_record, transfer_message, transfer_type, update_edns, update_message, without_ttl}
+use Rattle.op_use.specs.UpdateMessage.{append, compare_and_swap, create, delete_all, delete_by_rdata, delete_rrset, empty_record, untimed_in, sections, update_edns, update_message, without_ttl}
 use Rattle.base.specs.declared.error.proto_error.ProtoError.{ProtoError}
 use Rattle.op.specs.Message.{message_value}
 use Rattle.op.specs.declared.message.Message.{Message}
@@ -212,42 +210,6 @@ pub delete_all_fits : (id : ℕ) (owner origin : NameValue) (class : DNSClass) (
 delete_all_fits id owner origin class use_edns g =
     sections_fit id use_edns origin class _ _ g.rooted g.sent_class (All-nil _)
     (one_fits _ (empty_fits owner types.ANY classes.ANY g.owned (record { reads = refl; not_opt = refl; placed = refl }) any_class))
-
--- the question for a transfer
-soa_fits : (origin : NameValue) (soa : SOA) → origin.absolute ≡ true → IsSendableSoa (Some soa) → FitsPlain op_codes.Query (soa_record origin soa)
-soa_fits origin soa rooted sent = record {
-  fits = record {
-    reads = record { type_reads = refl; root = λ e. absurd (no_opt types.SOA refl e); readable = sent };
-    absolute = rooted;
-    class_reads = λ _. refl;
-    narrow = λ _. omega arith;
-    payload_reads = λ e. absurd (true≢false (sym e));
-    not_flushing = λ e. absurd (true≢false (sym e));
-  };
-  given = λ e. absurd (true≢false (sym e));
-  placed = refl;
-}
-
-last_soa_fits : (origin : NameValue) (last : Option SOA) → origin.absolute ≡ true → IsSendableSoa last
-    → All (FitsPlain op_codes.Query) (as_list (option_map (soa_record origin) last))
-last_soa_fits origin None rooted sent = All-nil _
-last_soa_fits origin (Some soa) rooted sent = All-cons (FitsPlain op_codes.Query) _ [] (soa_fits origin soa rooted sent) (All-nil _)
-
-transfer_type_reads : (last : Option SOA) → type_of (type_number (transfer_type last)) ≡ transfer_type last
-transfer_type_reads None = refl
-transfer_type_reads (Some soa) = refl
-
-pub transfer_fits : (id : ℕ) (origin : NameValue) (last : Option SOA) → origin.absolute ≡ true → IsSendableSoa last → Fits (transfer_message id origin last)
-transfer_fits id origin last rooted sent = record {
-  op_code = omega arith;
-  op_code_reads = refl;
-  queries = All-cons FitsQuery _ [] (record { absolute = rooted; type_reads = transfer_type_reads last; class_reads = refl; narrow = omega arith }) (All-nil FitsQuery);
-  answers = All-nil _;
-  authorities = last_soa_fits origin last rooted sent;
-  additionals = All-nil _;
-  edns = edns_fits true;
-  signature = All-nil _;
-}
 
 -- ---- what uncut bytes mean
 
