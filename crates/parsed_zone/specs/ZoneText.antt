@@ -4,18 +4,26 @@ use Rattle.std.specs.Prelude.{ℕ, List, ◌++◌, codes, if◌then◌else◌, O
 use Rattle.std.specs.Str.{is_utf8}
 use Rattle.base.specs.Labels.{NameValue}
 use Rattle.base.specs.NameText.{name_text}
+use Rattle.base.specs.TextFaults.{Fault}
 use Rattle.base.specs.declared.rr_key.RrKey.{RrKey}
 use Rattle.op.specs.MessageText.{line, record_lines}
 use Rattle.rr.specs.RecordSet.{SetValue}
-use Rattle.txt.specs.Zone.{Texts, zone_of}
+use Rattle.txt.specs.Zone.{Texts, generic_zone_of, no_texts, zone_of}
 use Rattle.txt.specs.ZoneSets.{ZoneSets}
 use Rattle.parsed_zone.specs.Faults.{numbered}
 
--- the zone of the text that bytes are, under an origin, if there is one, or the number of its fault; 24 where they
--- aren't UTF-8
+-- the zone of a text that bytes are, or the number of its fault; 24 where they aren't UTF-8
+abbrev pub read_as_text : List ℕ → Result (NameValue × ZoneSets) Fault
+    → Result (NameValue × ZoneSets) ℕ
+read_as_text bytes zone = if is_utf8 bytes then numbered zone else Err 24
+
+-- the zone of the text that bytes are, under an origin, if there is one
 abbrev pub zone_of_bytes : Texts → Option NameValue → List ℕ → Result (NameValue × ZoneSets) ℕ
-zone_of_bytes texts origin bytes = if is_utf8 bytes then numbered (zone_of texts origin bytes)
-    else Err 24
+zone_of_bytes texts origin bytes = read_as_text bytes (zone_of texts origin bytes)
+
+-- the same of a text in which types and data may stand in the generic form (RFC 3597, 5), and which includes none
+abbrev pub generic_zone_of_bytes : Option NameValue → List ℕ → Result (NameValue × ZoneSets) ℕ
+generic_zone_of_bytes origin bytes = read_as_text bytes (generic_zone_of no_texts origin bytes)
 
 -- the records of all sets, in the order of their keys, a line each
 abbrev pub set_lines : ZoneSets → List ℕ

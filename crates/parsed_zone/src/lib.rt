@@ -10,4 +10,6 @@ pub mod zone_text;
 pub use applying::lines_after;
 pub use classes::are_sets_in;
 pub use refusal::ZoneRefusal;
-pub use zone_text::{sets_lines, zone_lines, zone_of_bytes, zone_sets, zone_with_texts};
+pub use zone_text::{
+    generic_zone_of_bytes, sets_lines, zone_lines, zone_of_bytes, zone_sets, zone_with_texts,
+};

@@ -9,7 +9,7 @@ ghost use Rattle.rr.specs.Record.{record_text};
 ghost use Rattle.txt.specs.Steps.{texts_in};
 ghost use Rattle.txt.specs.ZoneSets.{AreKeyed};
 ghost use Rattle.parsed_zone.specs.Faults.{MakesOrRefuses};
-ghost use Rattle.parsed_zone.specs.ZoneText.{origin_line, set_lines, zone_lines, zone_of_bytes};
+ghost use Rattle.parsed_zone.specs.ZoneText.{generic_zone_of_bytes, origin_line, set_lines, zone_lines, zone_of_bytes};
 ghost use Rattle.txt.specs.Zone.{no_texts};
 
 use crate::refusal::ZoneRefusal;
@@ -77,6 +77,29 @@ pub fn zone_sets(
         return Err(ZoneRefusal::NotUtf8);
     };
     Ok(Parser::new(alloc, text, includes, origin).parse_sets()?)
+}
+
+/// The zone of the text that bytes are, under an origin, if there is one, where types and data may also stand in the
+/// generic form (RFC 3597, 5). No text is there to be included.
+///
+/// # Errors
+///
+/// Those of `zone_of_bytes`.
+pub fn generic_zone_of_bytes(
+    alloc: Global,
+    origin: Option<Name>,
+    bytes: &[u8],
+) -> Result<(Name, BTreeMap<RrKey, RecordSet>), ZoneRefusal>
+    ensures zone { MakesOrRefuses (λ r. (r.0, r.1.entries))
+        (generic_zone_of_bytes origin bytes.now) result }
+    // Each set stands under the key of its owner and type, has a record and is tidy.
+    ensures kept { IfOk result (λ r. AreKeyed r.1.entries) }
+{
+    let Ok(text) = str::from_utf8(bytes) else {
+        return Err(ZoneRefusal::NotUtf8);
+    };
+    let none = BTreeMap::new(alloc);
+    Ok(Parser::new(alloc, text, &none, origin).parse_generic()?)
 }
 
 /// The origin and the records of a zone, a line each, in the order of owners and types.
