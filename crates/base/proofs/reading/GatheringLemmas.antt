@@ -209,7 +209,6 @@ last_kept {old} {ps = ps} {start} {used} {labels} {whole} items g whole_is =
 
 -- the labels after this pointer can be kept, which are where the source says
 pub record CanKeep (now : Reader) (labels : List ℕ) (p : FollowedPointer) (source : Source) : Type 0 where
-  pub inside : p.from ≤ length labels
   pub kept : IsKept now.bytes p.target (take (length labels - p.from) (drop p.from labels))
   pub new : set.contains now.kept p.target ≡ false
   pub after : PassesKept now.bytes now.kept p.target
@@ -236,7 +235,6 @@ module _ (old : Reader) {now : Reader} (ps : List FollowedPointer) (k n : ℕ) (
       let all : xs ≡ drop p.from labels = take_all (length labels - p.from) (drop p.from labels) (omega (arith, length-drop p.from labels)) in
       let bytes : now.bytes ≡ old.bytes = ap (λ (r : Reader). r.bytes) now_is in
       record {
-        inside = here.0;
         kept = subst (λ (bs : List ℕ). IsKept bs p.target xs) (sym bytes) (subst (IsKept old.bytes p.target) (sym all) here.1);
         new = ap (λ (r : Reader). set.contains r.kept p.target) now_is ∙ ap (λ (i : ℕ). set.contains (inserted (targets (drop i ps)) old.kept) p.target) next ∙ new_at old.kept ps k none new inside;
         after = subst (λ (r : Reader). PassesKept r.bytes r.kept p.target) (sym now_is)

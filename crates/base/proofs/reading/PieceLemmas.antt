@@ -19,7 +19,7 @@ use Rattle.base.specs.declared.error.decode_error.DecodeError.{DecodeError}
 use Rattle.base.specs.declared.error.decode_error.DecodeError.TheVariants as faults
 use Rattle.base.proofs.reading.GatherLemmas.{Gathers, IsWire-append, at_fault, at_kept, at_long, at_root, gathers_label, gathers_none, kept_end, pointer_refused, root_inside}
 use Rattle.base.proofs.reading.PassLemmas.{Lead, Leads, Leads-kept, Leads-label, Leads-none, Leads-root}
-use Rattle.base.proofs.reading.WalkLemmas.{PartIs, is_past, is_root, is_cut_label, is_label, is_bits, is_cut_pointer, is_pointer, part_is}
+use Rattle.base.proofs.reading.WalkLemmas.{PartIs, byte, is_past, is_root, is_cut_label, is_label, is_bits, is_cut_pointer, is_pointer, part_is}
 use Rattle.base.proofs.reading.WalkLemmas.{part_at-past, part_at-root, part_at-cut_label, part_at-label, part_at-bits, part_at-cut_pointer, part_at-pointer}
 
 -- ---- what stands at a place of a piece stands in the buffer
@@ -134,6 +134,16 @@ pub data WalkedTo (near : List ℕ) : ℕ → Type 0 where
   at_front : WalkedTo near 0
   past : {i n : ℕ} → WalkedTo near i → ByteAt anywhere near i n → 1 ≤ n → n ≤ 63 → WalkedTo near (i + (1 + n))
 
+-- a byte after labels
+pub record AfterLabels (bytes : List ℕ) (before i b : ℕ) : Type 0 where
+  pub here : ByteAt anywhere bytes i b
+  pub labels : LabelsUpTo bytes i
+  pub short : before + i ≤ 254
+
+-- where nothing can stand after labels
+pub none_after : {bytes : List ℕ} {before i b : ℕ} {e : DecodeError} → AfterLabels bytes before i b → part_at bytes i ≡ Err e → IsRefusedIn bytes before e
+none_after {i = i} after is = record { at = i; labels = after.labels; short = after.short; refused = nothing_there is }
+
 module _ (bytes : List ℕ) {near : List ℕ} (m : ℕ) (near_is : near ≡ take m bytes) where
   pub near_fits : (length near ≤ m) × (length near ≤ length bytes)
   near_fits = (omega (arith, ap length near_is, length-take m bytes), omega (arith, ap length near_is, length-take m bytes))
@@ -151,15 +161,18 @@ module _ (bytes : List ℕ) {near : List ℕ} (m : ℕ) (near_is : near ≡ take
   walked_labels (past {i = i} {n = n} walked h some small) inside =
       one_more (walked_labels walked (omega (arith, inside))) (part_at-label bytes i n (in_all h) some small (omega (arith, inside)))
 
+  pub after_labels : {i b : ℕ} (before : ℕ) → m + before ≤ 255 → WalkedTo near i → i < length near → get_or near i 0 ≡ b → AfterLabels bytes before i b
+  after_labels {i} {b} before few walked begins is = record {
+    here = in_all (byte near i b begins is);
+    labels = walked_labels walked (omega (arith, begins, near_fits.1));
+    short = omega (arith, begins, near_fits.0, few);
+  }
+
   -- the bytes end before the piece does
   pub walked_cut : {i : ℕ} (before : ℕ) → m + before ≤ 255 → WalkedTo near i → length bytes < i → IsRefusedIn bytes before faults.InsufficientBytes
   walked_cut before few at_front cut = absurd (omega (arith, cut))
-  walked_cut before few (past {i = i} {n = n} walked h some small) cut = record {
-    at = i;
-    labels = walked_labels walked (omega (arith, (in_all h).inside));
-    short = omega (arith, h.inside, near_fits.0, few);
-    refused = nothing_there (part_at-cut_label bytes i n (in_all h) some small (omega (arith, cut)));
-  }
+  walked_cut before few (past {i = i} {n = n} walked h some small) cut =
+      none_after (after_labels before few walked h.inside h.is) (part_at-cut_label bytes i n (in_all h) some small (omega (arith, cut)))
 
   pub walked_off : {i : ℕ} (before : ℕ) → WalkedTo near i → i ≡ length bytes → before + i ≤ 254 → IsRefusedIn bytes before faults.InsufficientBytes
   walked_off {i} before walked off short = record {
@@ -172,12 +185,14 @@ module _ (bytes : List ℕ) {near : List ℕ} (m : ℕ) (near_is : near ≡ take
   -- the name gets too long
   pub walked_long : {i : ℕ} (before : ℕ) → m + before ≤ 255 → before ≤ 254 → WalkedTo near i → i ≤ length bytes → 255 ≤ before + i → IsRefusedIn bytes before faults.BadName
   walked_long before few small_before at_front inside long = absurd (omega (arith, small_before, long))
-  walked_long before few small_before (past {i = i} {n = n} walked h some small) inside long = record {
-    at = i;
-    labels = walked_labels walked (omega (arith, (in_all h).inside));
-    short = omega (arith, h.inside, near_fits.0, few);
-    refused = too_long (part_at-label bytes i n (in_all h) some small (omega (arith, inside))) (omega (arith, long));
-  }
+  walked_long before few small_before (past {i = i} {n = n} walked h some small) inside long =
+      let after = after_labels before few walked h.inside h.is in
+      record {
+        at = i;
+        labels = after.labels;
+        short = after.short;
+        refused = too_long (part_at-label bytes i n after.here some small (omega (arith, inside))) (omega (arith, long));
+      }
 
 -- ---- a name whose own piece is all that is read
 

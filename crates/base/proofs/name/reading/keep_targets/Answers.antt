@@ -1,4 +1,4 @@
-use Rattle.std.proofs.Common.{◌≡◌, ◌∙◌, ◌∷◌, [], ◌-◌, suc, List, ap, arith, drop, get_or, length, refl, sym}
+use Rattle.std.proofs.Common.{◌≡◌, ◌∙◌, ◌∷◌, [], ◌-◌, suc, List, ap, arith, drop, length, refl, sym}
 use Rattle.std.specs.FinSet as set
 use Rattle.std.specs.Ordering.{nat_cmp}
 use Rattle.std.proofs.lemmas.List.{drop_all}
@@ -7,7 +7,7 @@ use Rattle.base.specs.declared.name.reading.FollowedPointer.{FollowedPointer}
 use Rattle.base.specs.Pointers.{targets}
 use Rattle.base.specs.Passing.{inserted}
 use Rattle.base.proofs.reading.CountLemmas.{inserted-none}
-use Rattle.base.proofs.reading.GatheringLemmas.{CanKeep, can_keep, none, one_more_kept}
+use Rattle.base.proofs.reading.GatheringLemmas.{can_keep, none, one_more_kept}
 use Rattle.base.proofs.name.reading.keep_targets.Goals as goal
 
 pub loop-i-init : goal.loop-i-init
@@ -24,27 +24,18 @@ loop-i-init c =
 
 -- ---- another pointer
 
-other : (c : goal.After-keep-arg-in-loop-i-1) → CanKeep c.loop-i.decoder c.args.labels.now (get_or c.args.others.now (c.loop-i.i - 1) none) c.loop-i.source
-other c = can_keep c.args.decoder.now (c.args.first ∷ c.args.others.now) (suc (c.loop-i.i - 1)) (suc c.loop-i.i) (omega (arith, c.loop-i-test.true)) (omega (arith, c.loop-i-test.true, c.loop-i.auto.i)) c.loop-i.invariant.decoder
-    c.requires.spelled c.requires.last c.requires.later c.requires.new (λ end. c.loop-i.invariant.last (omega (arith, end))) (λ less. c.loop-i.invariant.before (omega (arith, less)))
-
 pub slice_bounds-keep-count : goal.slice_bounds-keep-count
 slice_bounds-keep-count c = (c.requires.spelled (suc (c.loop-i.i - 1)) none (omega (arith, c.loop-i-test.true, c.loop-i.auto.i))).0
 
 pub slice_bounds-keep-start : goal.slice_bounds-keep-start
 slice_bounds-keep-start c = (c.requires.spelled (suc (c.loop-i.i - 1)) none (omega (arith, c.loop-i-test.true, c.loop-i.auto.i))).0
 
-pub keep-requires-clause-kept : goal.keep-requires-clause-kept
-keep-requires-clause-kept c = (other c).kept
-
-pub keep-requires-clause-new : goal.keep-requires-clause-new
-keep-requires-clause-new c = (other c).new
-
-pub keep-requires-clause-after : goal.keep-requires-clause-after
-keep-requires-clause-after c = (other c).after
-
-pub keep-requires-clause-source : goal.keep-requires-clause-source
-keep-requires-clause-source c = (other c).there
+pub keep-requires : goal.keep-requires
+keep-requires c =
+    let k = can_keep c.args.decoder.now (c.args.first ∷ c.args.others.now) (suc (c.loop-i.i - 1)) (suc c.loop-i.i) (omega (arith, c.loop-i-test.true)) (omega (arith, c.loop-i-test.true, c.loop-i.auto.i))
+    c.loop-i.invariant.decoder c.requires.spelled c.requires.last c.requires.later c.requires.new
+    (λ end. c.loop-i.invariant.last (omega (arith, end))) (λ less. c.loop-i.invariant.before (omega (arith, less))) in
+    record { kept = k.kept; new = k.new; after = k.after; source = k.there }
 
 pub loop-i-preserved : goal.loop-i-preserved
 loop-i-preserved c = record {
@@ -56,21 +47,12 @@ loop-i-preserved c = record {
 
 -- ---- the first one
 
-first : (c : goal.After-keep-arg-3-1) → CanKeep c.loop-i.decoder c.args.labels.now c.args.first c.loop-i.source
-first c = can_keep c.args.decoder.now (c.args.first ∷ c.args.others.now) 0 (suc c.loop-i.i) (omega (arith, c.loop-i-test.false)) (omega arith) c.loop-i.invariant.decoder
-    c.requires.spelled c.requires.last c.requires.later c.requires.new (λ end. c.loop-i.invariant.last (omega (arith, end))) (λ less. c.loop-i.invariant.before (omega (arith, less)))
-
-pub keep-requires-2-clause-kept : goal.keep-requires-2-clause-kept
-keep-requires-2-clause-kept c = (first c).kept
-
-pub keep-requires-2-clause-new : goal.keep-requires-2-clause-new
-keep-requires-2-clause-new c = (first c).new
-
-pub keep-requires-2-clause-after : goal.keep-requires-2-clause-after
-keep-requires-2-clause-after c = (first c).after
-
-pub keep-requires-2-clause-source : goal.keep-requires-2-clause-source
-keep-requires-2-clause-source c = (first c).there
+pub keep-requires-2 : goal.keep-requires-2
+keep-requires-2 c =
+    let k = can_keep c.args.decoder.now (c.args.first ∷ c.args.others.now) 0 (suc c.loop-i.i) (omega (arith, c.loop-i-test.false)) (omega arith)
+    c.loop-i.invariant.decoder c.requires.spelled c.requires.last c.requires.later c.requires.new
+    (λ end. c.loop-i.invariant.last (omega (arith, end))) (λ less. c.loop-i.invariant.before (omega (arith, less))) in
+    record { kept = k.kept; new = k.new; after = k.after; source = k.there }
 
 pub returns-clause-ok : goal.returns-clause-ok
 returns-clause-ok c = on_ok_weaker c.keep-2.result

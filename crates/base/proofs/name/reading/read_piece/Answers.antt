@@ -1,7 +1,6 @@
 use Rattle.std.proofs.Common.{◌≡◌, ◌≤◌, ◌+◌, refl, sym, ◌∙◌, arith, length-take, take, get_or}
-use Rattle.base.specs.Pieces.{nothing_there}
 use Rattle.base.specs.Spelling.{ByteAt, anywhere}
-use Rattle.base.proofs.reading.PieceLemmas.{at_front, in_all, past, walked_cut, walked_labels, walked_long, walked_off}
+use Rattle.base.proofs.reading.PieceLemmas.{after_labels, at_front, none_after, past, walked_cut, walked_long, walked_off}
 use Rattle.base.proofs.reading.WalkLemmas.{byte, part_at-bits, part_at-cut_pointer, part_at-pointer, part_at-root}
 use Rattle.base.proofs.name.reading.read_piece.Goals as goal
 use Rattle.base.proofs.name.reading.read_piece.Goals.{then-loop-len-test+then-near-len-ne0+else-from-le-MAX_LABEL, then-loop-len-test+else-near-len-ne0, else-loop-len-test}
@@ -38,59 +37,36 @@ returns-then-len-near-clause-piece c =
 pub returns-then-first-eq0-clause-piece : goal.returns-then-first-eq0-clause-piece
 returns-then-first-eq0-clause-piece c =
     let bytes = c.args.bytes.now in
-    let m = c.min.result in
-    let len = c.loop-len.len in
-    let here : ByteAt anywhere bytes len 0 = in_all bytes m refl (byte (take m bytes) len 0 c.if-len-near.false c.if-first-eq0.true) in
-    record {
-      labels = walked_labels bytes m refl c.loop-len.invariant (omega (arith, here.inside));
-      end = part_at-root bytes len here;
-      short = omega (arith, c.if-len-near.false, c.min.ensures, length-take m bytes);
-    }
+    let w = after_labels bytes c.min.result refl c.args.before (omega (arith, c.min.ensures, c.requires)) c.loop-len.invariant c.if-len-near.false c.if-first-eq0.true in
+    record { labels = w.labels; end = part_at-root bytes c.loop-len.len w.here; short = w.short }
 
 pub returns-then-first-lt-POINTER_BITS-clause-piece :
     goal.returns-then-first-lt-POINTER_BITS-clause-piece
 returns-then-first-lt-POINTER_BITS-clause-piece c =
     let bytes = c.args.bytes.now in
-    let m = c.min.result in
-    let len = c.loop-len.len in
-    let b = get_or (take m bytes) len 0 in
-    let here : ByteAt anywhere bytes len b = in_all bytes m refl (byte (take m bytes) len b c.if-len-near.false refl) in
-    let high : 64 ≤ b = elim c.loop-len-test.branch [
+    let w = after_labels bytes c.min.result refl c.args.before (omega (arith, c.min.ensures, c.requires)) c.loop-len.invariant c.if-len-near.false refl in
+    let high : 64 ≤ get_or (take c.min.result bytes) c.loop-len.len 0 = elim c.loop-len-test.branch [
       | then-loop-len-test+then-near-len-ne0+else-from-le-MAX_LABEL w ↦ omega (arith, w.from.ensures, w.if-from-le-MAX_LABEL.false)
       | then-loop-len-test+else-near-len-ne0 w ↦ absurd (c.if-first-eq0.false w.if-near-len-ne0.false)
       | else-loop-len-test w ↦ absurd (omega (arith, w.loop-len-test.false, c.if-len-near.false))
     ] in
-    record {
-      at = len;
-      labels = walked_labels bytes m refl c.loop-len.invariant (omega (arith, here.inside));
-      short = omega (arith, c.if-len-near.false, c.min.ensures, length-take m bytes);
-      refused = nothing_there (part_at-bits bytes len b here high c.if-first-lt-POINTER_BITS.true);
-    }
+    none_after w (part_at-bits bytes c.loop-len.len _ w.here high c.if-first-lt-POINTER_BITS.true)
 
 pub returns-then-len-bytes-2-clause-piece : goal.returns-then-len-bytes-2-clause-piece
 returns-then-len-bytes-2-clause-piece c =
     let bytes = c.args.bytes.now in
-    let m = c.min.result in
-    let len = c.loop-len.len in
-    let b = get_or (take m bytes) len 0 in
-    let here : ByteAt anywhere bytes len b = in_all bytes m refl (byte (take m bytes) len b c.if-len-near.false refl) in
-    record {
-      at = len;
-      labels = walked_labels bytes m refl c.loop-len.invariant (omega (arith, here.inside));
-      short = omega (arith, c.if-len-near.false, c.min.ensures, length-take m bytes);
-      refused = nothing_there (part_at-cut_pointer bytes len b here c.if-first-lt-POINTER_BITS.false c.if-len-bytes-2.true);
-    }
+    let w = after_labels bytes c.min.result refl c.args.before (omega (arith, c.min.ensures, c.requires)) c.loop-len.invariant c.if-len-near.false refl in
+    none_after w (part_at-cut_pointer bytes c.loop-len.len _ w.here c.if-first-lt-POINTER_BITS.false c.if-len-bytes-2.true)
 
 pub returns-clause-piece : goal.returns-clause-piece
 returns-clause-piece c =
     let bytes = c.args.bytes.now in
-    let m = c.min.result in
     let len = c.loop-len.len in
-    let b = get_or (take m bytes) len 0 in
-    let here : ByteAt anywhere bytes len b = in_all bytes m refl (byte (take m bytes) len b c.if-len-near.false refl) in
-    let next : ByteAt anywhere bytes (len + 1) c.from-3.result = byte bytes (len + 1) c.from-3.result c.if-len-bytes-2.false (sym c.from-3.ensures) in
+    let c2 = c.from-3.result in
+    let w = after_labels bytes c.min.result refl c.args.before (omega (arith, c.min.ensures, c.requires)) c.loop-len.invariant c.if-len-near.false refl in
+    let next : ByteAt anywhere bytes (len + 1) c2 = byte bytes (len + 1) c2 c.if-len-bytes-2.false (sym c.from-3.ensures) in
     record {
-      labels = walked_labels bytes m refl c.loop-len.invariant (omega (arith, here.inside));
-      end = rw c.from-2.ensures (part_at-pointer bytes len b c.from-3.result here next c.if-first-lt-POINTER_BITS.false);
-      short = omega (arith, c.if-len-near.false, c.min.ensures, length-take m bytes);
+      labels = w.labels;
+      end = rw c.from-2.ensures (part_at-pointer bytes len _ c2 w.here next c.if-first-lt-POINTER_BITS.false);
+      short = w.short;
     }
