@@ -178,12 +178,9 @@ unfolding name_at
 name_fault bytes i f is = name_err bytes i (labels_at bytes i i 0) (labels_right bytes i i 0 (omega arith)) f is
 
 pub name_again : (bytes : List ℕ) (i : ℕ) (name : NameValue) (e : ℕ) → IsNameAt bytes i name e → name_at bytes i ≡ Ok (name, e)
-unfolding name_at
 name_again bytes i name e at =
-    let flagged : Bool → NameValue = λ flag. record { labels = name.labels; absolute = flag } in
-    ap (λ (read : Labels). read >>= λ r. Ok (named r)) (labels_again 0 at.spelled (omega (arith, at.short)))
-    ∙ ap (λ (flag : Bool). Ok (flagged flag, e)) (sym at.absolute)
+    name_from bytes i e name.labels (labels_again 0 at.spelled (omega (arith, at.short)))
+    ∙ ap (λ (flag : Bool). Ok (record { labels = name.labels; absolute = flag }, e)) (sym at.absolute)
 
 pub fault_again : (bytes : List ℕ) (i : ℕ) (f : DecodeError) → IsFaulty bytes i i 0 f → name_at bytes i ≡ Err f
-unfolding name_at
-fault_again bytes i f faulty = ap (λ (read : Labels). read >>= λ r. Ok (named r)) (faulty_again (omega arith) faulty)
+fault_again bytes i f faulty = name_refused bytes i f (faulty_again (omega arith) faulty)

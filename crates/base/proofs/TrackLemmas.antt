@@ -6,16 +6,14 @@ use Rattle.std.specs.FinSet as set
 use Rattle.std.specs.Ordering.{nat_cmp}
 use Rattle.std.proofs.lemmas.Bool.{false≢true}
 use Rattle.std.proofs.lemmas.List.{append-nil}
-use Rattle.std.proofs.lemmas.List.Elements.{All-append, All-cons, All-nil, All-weaker}
+use Rattle.std.proofs.lemmas.List.Elements.{All-append, All-nil, All-weaker}
 use Rattle.std.proofs.lemmas.List.Folds.{list_any-append}
 use Rattle.base.specs.Many.{many_names}
 use Rattle.base.specs.Passing.{NamesPass, is_among, inserted, no_names, one_more, passed}
 use Rattle.base.specs.Reader.{Reader}
 use Rattle.base.specs.Reading.{Read}
-use Rattle.base.specs.Spelling.{Spelled}
-use Rattle.base.specs.Pointers.{Followed}
 use Rattle.base.specs.Tracks.{IsBounded, IsPassed, Tracked, Tracks}
-use Rattle.base.proofs.reading.CountLemmas.{IsAfterName, both_lists, contains-inserted, counted_after, ends_after, inserted-none, same_members}
+use Rattle.base.proofs.reading.CountLemmas.{both_lists, contains-inserted, inserted-none, same_members}
 
 or_of_three : (a b c : Bool) → (a || (b || c)) ≡ ((a || b) || c)
 or_of_three true b c = refl
@@ -73,21 +71,6 @@ pub tracked_on : {seen old : Reader} (n : ℕ) → seen ≡ old → Tracked [] o
 tracked_on {seen} {old} n is =
     tracked_none (ap (λ (r : Reader). r.bytes) is) (omega (arith, ap (λ (r : Reader). r.index) is))
     (ap (λ (r : Reader). r.kept) is) (ap (λ (r : Reader). r.jumps) is)
-
--- a name
-pub tracked_name : {ts : List ℕ} {old new last : Reader} {xs : List (List ℕ)} {e : ℕ}
-    {h : Spelled old.bytes xs old.index old.index e} → IsAfterName ts old new last h
-    → Followed ts old new → Tracked (old.index ∷ []) old last
-tracked_name {old = old} {last = last} {e = e} {h = h} after followed = record {
-  bytes = after.bytes;
-  on = omega (arith, after.index, ends_after h);
-  before = All-cons (λ (i : ℕ). i < last.index) old.index [] (omega (arith, after.index, ends_after h))
-      (none_before last.index);
-  offsets = passed h ++ [];
-  pass = one_more h no_names;
-  exact = after.passes ∙ ap (λ (qs : List ℕ). inserted qs old.kept) (sym (append-nil (passed h)));
-  counts = counted_after after followed;
-}
 
 -- two reads, one after another
 pub tracked_both : {names more : List ℕ} {old mid new : Reader} → Tracked names old mid → Tracked more mid new

@@ -14,12 +14,11 @@ use Rattle.std.proofs.lemmas.Map.Lookups.{exact_unsigned}
 use Rattle.base.specs.declared.wire.pointer_cache.Source.{Source}
 use Rattle.base.specs.declared.wire.pointer_cache.Source.TheVariants.{Nowhere, Message, Kept}
 use Rattle.base.specs.Labels.{wire_of}
-use Rattle.base.specs.Pointers.{AreKept, Cache, Followed, IsKept, IsSource, KeepsAt, targets_of}
+use Rattle.base.specs.Pointers.{AreKept, Cache, IsKept, IsSource, KeepsAt, targets_of}
 use Rattle.base.proofs.SpellingLemmas.{spelled_once}
 use Rattle.std.specs.declared.cmp.Ordering.{Ordering}
 use Rattle.std.specs.declared.cmp.Ordering.TheVariants.{Less, Equal, Greater}
-use Rattle.base.specs.Tracks.{IsCounted}
-use Rattle.base.specs.Passing.{is_among, inserted, passed}
+use Rattle.base.specs.Passing.{is_among, inserted}
 use Rattle.base.specs.Spelling.{Spelled, ends, label, pointer}
 use Rattle.base.specs.Reader.{Reader}
 
@@ -235,20 +234,3 @@ both_lists ts us = same_members _ _ (λ q.
     ∙ or_comm (is_among us q) (is_among ts q)
     ∙ sym (list_any-append (λ (y : ℕ). nat_eq y q) ts us)
     ∙ sym (set.contains-from_list_nat (ts ++ us) q))
-
--- A decoder after a name: pointers to these offsets were followed, and with them all that the name passes is kept.
-pub record IsAfterName {xs : List (List ℕ)} {e : ℕ} (ts : List ℕ) (old new last : Reader) (h : Spelled old.bytes xs old.index old.index e) : Type 0 where
-  pub bytes : last.bytes ≡ old.bytes
-  pub index : last.index ≡ e
-  pub jumps : last.jumps ≡ new.jumps
-  pub kept : last.kept ≡ inserted ts old.kept
-  pub passes : last.kept ≡ inserted (passed h) old.kept
-
--- a read of a name ends: with all that it passes kept, or with a refusal
-pub counted_after : {ts : List ℕ} {old new last : Reader} {xs : List (List ℕ)} {e : ℕ} {h : Spelled old.bytes xs old.index old.index e} → IsAfterName ts old new last h
-    → Followed ts old new → IsCounted old → IsCounted last
-counted_after past f counted =
-    let few = f.few counted.few in
-    let raised = f.jumps (omega (arith, counted.exact, few, f.all)) in
-    let len = ap set.len past.kept in
-    record { exact = omega (arith, past.jumps, raised, counted.exact, len, f.all); few = omega (arith, few, len) }

@@ -33,7 +33,6 @@ pub record Gathers (buffer : List ℕ) (first before start at used : ℕ) (bytes
   pub few : used ≤ 254
   pub low : start ≤ length buffer
   pub inside : at ≤ length buffer
-  pub end_inside : unwrap_or end 0 ≤ length buffer
 
 with_front-nil : (read : Labels) → with_front [] read ≡ read
 with_front-nil (Ok r) = refl
@@ -47,7 +46,6 @@ gathers_none buffer first before inside small = record {
   few = small;
   low = inside;
   inside = inside;
-  end_inside = omega arith;
 }
 
 module _ {buffer : List ℕ} {first before start at used : ℕ} {bytes : List ℕ} {end : Option ℕ} (gathers : Gathers buffer first before start at used bytes end) where
@@ -98,9 +96,8 @@ pointer_part bytes i t _ other is = absurd cc
 pub pointer_fits : (bytes : List ℕ) (i t : ℕ) → part_at bytes i ≡ Ok (pointer_to t) → i + 2 ≤ length bytes
 pointer_fits bytes i t is = pointer_part bytes i t (part_at bytes i) (part_is bytes i) is
 
-either_end : (end : Option ℕ) (e len : ℕ) → unwrap_or end 0 ≤ len → e ≤ len → unwrap_or end e ≤ len
-either_end None e len fits inside = inside
-either_end (Some f) e len fits inside = fits
+pub root_fits : (bytes : List ℕ) (i : ℕ) → part_at bytes i ≡ Ok zero_byte → i + 1 ≤ length bytes
+root_fits bytes i is = root_part bytes i (part_at bytes i) (part_is bytes i) is
 
 -- a label with its length before it, and its bytes
 label_range : (buffer : List ℕ) (at n : ℕ) → ByteAt anywhere buffer at n → at + 1 + n ≤ length buffer
@@ -126,9 +123,6 @@ fails_is faults.Memory read is = tt
 fails_is f read is = is
 
 module _ {buffer : List ℕ} {first before start at used : ℕ} {bytes : List ℕ} {end : Option ℕ} (gathers : Gathers buffer first before start at used bytes end) where
-  pub root_inside : part_at buffer at ≡ Ok zero_byte → unwrap_or end (at + 1) ≤ length buffer
-  root_inside is = either_end end (at + 1) (length buffer) gathers.end_inside (root_part buffer at (part_at buffer at) (part_is buffer at) is)
-
   pub gathers_pointer : (t : ℕ) → part_at buffer at ≡ Ok (pointer_to t) → t < start → Gathers buffer first before t t used bytes (Some (unwrap_or end (at + 2)))
   gathers_pointer t is below = record {
     so_far = ap (with_front (labels_of bytes)) (earlier end (labels_at buffer t t used)) ∙ sym (goes gathers (ending (at + 2) (labels_at buffer t t used))
@@ -138,7 +132,6 @@ module _ {buffer : List ℕ} {first before start at used : ℕ} {bytes : List �
     few = gathers.few;
     low = omega (arith, gathers.low);
     inside = omega (arith, gathers.low);
-    end_inside = either_end end (at + 2) (length buffer) gathers.end_inside (pointer_fits buffer at t is);
   } where
     earlier : (end : Option ℕ) (read : Labels) → ended_at (Some (unwrap_or end (at + 2))) read ≡ ended_at end (ending (at + 2) read)
     earlier None read = refl
@@ -167,7 +160,6 @@ module _ {buffer : List ℕ} {first before start at used : ℕ} {bytes : List �
         few = omega arith;
         low = gathers.low;
         inside = omega (arith, part.3);
-        end_inside = gathers.end_inside;
       }
 
 -- the bytes of labels after those before them
@@ -213,9 +205,6 @@ module _ {buffer : List ℕ} {first before start at used : ℕ} {bytes : List �
         at_end : (end : Option ℕ) → with_front (labels_of bytes) (ended_at end (Ok (labels_of items, at + 2))) ≡ Ok (labels_of bytes ++ labels_of items, unwrap_or end (at + 2))
         at_end None = refl
         at_end (Some e) = refl
-
-  pub kept_end : unwrap_or end (at + 2) ≤ length buffer
-  kept_end = either_end end (at + 2) (length buffer) gathers.end_inside (pointer_fits buffer at t is)
 
   at_kept_long : 255 < used + length items + 1 → labels_at buffer first first before ≡ Err faults.BadName
   at_kept_long long =

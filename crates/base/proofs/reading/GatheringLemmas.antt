@@ -5,24 +5,23 @@ use Rattle.std.specs.FinSet as set
 use Rattle.std.specs.Ordering.{nat_cmp}
 use Rattle.std.proofs.lemmas.Bool.{cases_lt}
 use Rattle.base.specs.declared.error.decode_error.DecodeError.TheVariants as faults
-use Rattle.std.proofs.lemmas.List.{drop-append-le, drop_all, drop_more, map_push, take_all}
-use Rattle.std.proofs.lemmas.List.Elements.{All-nil, All-push, All-weaker}
+use Rattle.std.proofs.lemmas.List.{append-nil, drop-append-le, drop_all, drop_more, map_push, take_all}
+use Rattle.std.proofs.lemmas.List.Elements.{All-cons, All-nil, All-push, All-weaker}
 use Rattle.base.specs.declared.name.reading.FollowedPointer.{FollowedPointer}
 use Rattle.base.specs.declared.name.reading.NamePiece.{NamePiece}
 use Rattle.base.specs.declared.wire.pointer_cache.Source.{Source}
 use Rattle.base.specs.declared.wire.pointer_cache.Source.TheVariants.{Nowhere}
 use Rattle.base.specs.Labels.{IsWire, labels_of}
 use Rattle.base.specs.Names.{labels_at, part_at, pointer_to, zero_byte}
-use Rattle.base.specs.Passing.{IsClosed, PassesKept, inserted, passed}
+use Rattle.base.specs.Passing.{IsClosed, PassesKept, inserted, no_names, one_more, passed}
 use Rattle.base.specs.Spelling.{Spelled}
 use Rattle.base.specs.Tracks.{Tracked}
 use Rattle.base.specs.Pieces.{IsPiece, IsPointed}
 use Rattle.base.specs.Pointers.{AreSpelled, AreTooLong, Followed, IsKept, IsSource, KeepsAt, OfLast, PassLater, PassesThese, targets}
 use Rattle.base.specs.Reader.{Reader}
-use Rattle.base.proofs.reading.CountLemmas.{Follows, Follows-none, Follows-push, IsAfterName, inserted-first, inserted-none}
+use Rattle.base.proofs.reading.CountLemmas.{Follows, Follows-none, Follows-push, ends_after, inserted-first, inserted-none}
 use Rattle.base.proofs.reading.GatherLemmas.{Gathers, IsWire-append, at_kept, at_root, gathers_none, gathers_pointer, pointer_refused, spelled_is}
 use Rattle.base.proofs.reading.PassLemmas.{Lead, Lead-kept, Lead-pointer, Lead-root, Leads, Leads-kept, Leads-none, Leads-pointer, Leads-root, later_at, new_at, passes_are_kept}
-use Rattle.base.proofs.TrackLemmas.{tracked_name}
 use Rattle.base.proofs.reading.PieceLemmas.{gathers_piece, lead_piece, leads_piece, part_is_there}
 use Rattle.base.proofs.reading.TailLemmas.{Ends, Tail, Tail-kept, Tail-new, Tail-piece, Tail-pointer, Tail-root}
 
@@ -261,18 +260,27 @@ pub record NameRead (old last : Reader) : Type 0 where
 pub name_read : {ts : List ℕ} {old new last : Reader} {end : ℕ} {kept : set.FinSet nat_cmp} (labels : List ℕ) → labels_at old.bytes old.index old.index 0 ≡ Ok (labels_of labels, end)
     → PassesThese old.bytes old.kept old.index ts → Followed ts old new → last ≡ record new { index = end; kept = kept } → kept ≡ inserted ts old.kept → NameRead old last
 name_read {ts} {old} {new} {last} {end} {kept} labels read these followed last_is kept_is =
-    let spelled = spelled_is old.bytes old.index 0 end labels (omega arith) read in
+    let h = spelled_is old.bytes old.index 0 end labels (omega arith) read in
+    let on : old.index < last.index = omega (arith, ap (λ (r : Reader). r.index) last_is, ends_after h) in
     let all : last.kept ≡ inserted ts old.kept = ap (λ (r : Reader). r.kept) last_is ∙ kept_is in
     let passes : (xs : List (List ℕ)) (e : ℕ) (h : Spelled old.bytes xs old.index old.index e) → last.kept ≡ inserted (passed h) old.kept =
     λ xs e h. all ∙ passes_are_kept old.bytes old.kept old.index ts these xs e h in
-    let after : IsAfterName ts old new last spelled = record {
-      bytes = ap (λ (r : Reader). r.bytes) last_is ∙ ap (λ (r : Reader). r.bytes) followed.now;
-      index = ap (λ (r : Reader). r.index) last_is;
-      jumps = ap (λ (r : Reader). r.jumps) last_is;
-      kept = all;
-      passes = passes (labels_of labels) end spelled;
-    } in
-    record { tracks = tracked_name after followed; passes = passes }
+    record {
+      passes = passes;
+      tracks = record {
+        bytes = ap (λ (r : Reader). r.bytes) last_is ∙ ap (λ (r : Reader). r.bytes) followed.now;
+        on = omega (arith, on);
+        before = All-cons (λ (i : ℕ). i < last.index) old.index [] on (All-nil (λ (i : ℕ). i < last.index));
+        offsets = passed h ++ [];
+        pass = one_more h no_names;
+        exact = passes (labels_of labels) end h ∙ ap (λ (qs : List ℕ). inserted qs old.kept) (sym (append-nil (passed h)));
+        counts = λ counted.
+            let few = followed.few counted.few in
+            let len = ap set.len all in
+            let raised = followed.jumps (omega (arith, counted.exact, few, followed.all)) in
+            record { exact = omega (arith, ap (λ (r : Reader). r.jumps) last_is, raised, counted.exact, len, followed.all); few = omega (arith, few, len) };
+      };
+    }
 
 -- where no pointer was followed
 pub followed_none : (old : Reader) → Followed [] old old

@@ -17,7 +17,7 @@ use Rattle.base.specs.Passing.{IsClosed}
 use Rattle.base.specs.Reader.{Reader}
 use Rattle.base.specs.declared.error.decode_error.DecodeError.{DecodeError}
 use Rattle.base.specs.declared.error.decode_error.DecodeError.TheVariants as faults
-use Rattle.base.proofs.reading.GatherLemmas.{Gathers, IsWire-append, at_fault, at_kept, at_long, at_root, gathers_label, gathers_none, kept_end, pointer_refused, root_inside}
+use Rattle.base.proofs.reading.GatherLemmas.{Gathers, IsWire-append, at_fault, at_kept, at_long, at_root, gathers_label, gathers_none, pointer_refused}
 use Rattle.base.proofs.reading.PassLemmas.{Lead, Leads, Leads-kept, Leads-label, Leads-none, Leads-root}
 use Rattle.base.proofs.reading.WalkLemmas.{PartIs, byte, is_past, is_root, is_cut_label, is_label, is_bits, is_cut_pointer, is_pointer, part_is}
 use Rattle.base.proofs.reading.WalkLemmas.{part_at-past, part_at-root, part_at-cut_label, part_at-label, part_at-bits, part_at-cut_pointer, part_at-pointer}
@@ -200,7 +200,6 @@ module _ (bytes : List ℕ) {near : List ℕ} (m : ℕ) (near_is : near ≡ take
 pub record IsName (r : Reader) (labels : List ℕ) (after : ℕ) : Type 0 where
   pub read : labels_at r.bytes r.index r.index 0 ≡ Ok (labels_of labels, after)
   pub wire : IsWire labels
-  pub end : after ≤ length r.bytes
   pub these : PassesThese r.bytes r.kept r.index []
 
 module _ (r : Reader) {front : List ℕ} {piece : NamePiece} (inside : r.index ≤ length r.bytes) (same : front ≡ drop r.index r.bytes) (front_is : IsPiece front 0 piece) where
@@ -223,7 +222,6 @@ module _ (r : Reader) {front : List ℕ} {piece : NamePiece} (inside : r.index �
   name_root none = record {
     read = at_root gathers (part (ap ending_of none));
     wire = gathers.wire;
-    end = root_inside gathers (part (ap ending_of none));
     these = Leads-root leads r.kept (part (ap ending_of none));
   }
 
@@ -232,7 +230,6 @@ module _ (r : Reader) {front : List ℕ} {piece : NamePiece} (inside : r.index �
   name_kept items some below kept short has closed = record {
     read = at_kept gathers (part (ap ending_of some)) below kept (omega (arith, short));
     wire = IsWire-append own items gathers.wire kept.wire (omega (arith, short, gathers.len));
-    end = kept_end gathers (part (ap ending_of some)) below kept;
     these = Leads-kept leads r.kept (part (ap ending_of some)) has closed;
   }
 

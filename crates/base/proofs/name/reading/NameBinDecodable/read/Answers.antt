@@ -1,8 +1,9 @@
-use Rattle.std.proofs.Common.{◌∙◌, ◌++◌, ◌+◌, ℕ, Err, refl, ap, arith, drop, take, sym}
+use Rattle.std.proofs.Common.{◌∙◌, ◌++◌, ◌+◌, ℕ, Ok, Err, refl, ap, arith, drop, length, length-drop, take, sym}
 use Rattle.std.specs.Prelude.{is_some}
 use Rattle.std.proofs.lemmas.Result.{err_from_is_err_and}
+use Rattle.base.specs.Pieces.{ending_of}
 use Rattle.base.proofs.reading.CountLemmas.{inserted-none}
-use Rattle.base.proofs.reading.GatherLemmas.{fails_is, gathers_none}
+use Rattle.base.proofs.reading.GatherLemmas.{fails_is, gathers_none, pointer_fits, root_fits}
 use Rattle.base.proofs.reading.GatheringLemmas.{followed_none, name_read}
 use Rattle.base.proofs.reading.PieceLemmas.{IsName, name_kept, name_root, piece_fits, piece_refused, pointed_nowhere}
 use Rattle.base.proofs.ReadingLemmas.{name_from, name_refused}
@@ -23,9 +24,8 @@ from_front-requires c = piece_fits c.in_ok-len.ensures.piece
 
 pub move_to-requires-clause-inside : goal.move_to-requires-clause-inside
 move_to-requires-clause-inside c =
-    let at = c.index-first.ensures in
-    let name = name_root c.args.decoder.now (omega (arith, at.inside, at.value)) c.rest-own.ensures c.in_ok-len.ensures.piece c.in_default.is in
-    omega (arith, name.end, at.value)
+    let part = c.in_ok-len.ensures.piece.end ∙ ap (λ q. Ok (ending_of q)) c.in_default.is in
+    omega (arith, root_fits _ c.in_ok-len.field-0.len part, ap length c.rest-own.ensures, length-drop c.args.decoder.now.index c.args.decoder.now.bytes, c.index-first.ensures.inside, c.index-first.ensures.value)
 
 pub invariant_of-result : goal.invariant_of-result
 invariant_of-result c =
@@ -62,11 +62,8 @@ from_front_and-requires c = piece_fits c.in_ok-len.ensures.piece
 
 pub move_to-requires-2-clause-inside : goal.move_to-requires-2-clause-inside
 move_to-requires-2-clause-inside c =
-    let at = c.index-first.ensures in
-    let k = c.in_ok-kept.ensures in
-    let name = name_kept c.args.decoder.now (omega (arith, at.inside, at.value)) c.rest-own.ensures c.in_ok-len.ensures.piece c.in-Some-2.kept.now c.in-Some.is
-    (omega (arith, k.below, at.value)) (rw c.in-Some-2.is at k.spelled) (rw c.in-Some-2.is at k.short) (sym k.is ∙ ap is_some c.in-Some-2.is) k.closed in
-    omega (arith, name.end, at.value)
+    let part = c.in_ok-len.ensures.piece.end ∙ ap (λ q. Ok (ending_of q)) c.in-Some.is in
+    omega (arith, pointer_fits _ c.in_ok-len.field-0.len c.in-Some.target part, ap length c.rest-own.ensures, length-drop c.args.decoder.now.index c.args.decoder.now.bytes, c.index-first.ensures.inside, c.index-first.ensures.value)
 
 kept : (c : goal.After-move_to-2) → IsName c.args.decoder.now (take c.in_ok-len.field-0.len (drop c.args.decoder.now.index c.args.decoder.now.bytes) ++ c.in-Some-2.kept.now)
     (c.args.decoder.now.index + c.in_ok-len.field-0.len + 2)
