@@ -62,7 +62,7 @@ enum fuzsbanel_refusal {
     FUZSBANEL_OUTSIDE = 28,           /* an owner outside the zone */
     FUZSBANEL_TYPE = 29,              /* a type that no update here is of: SOA, query and meta types, SIG, WKS, 0 */
     FUZSBANEL_NOT_SOA = 30,           /* a record that isn't the zone's SOA */
-    FUZSBANEL_NOT_ON_WIRE = 31,       /* a name in data that is relative, which no message can have */
+    FUZSBANEL_NOT_ON_WIRE = 31,       /* a name in data that is relative, which no message can have; an OPT record */
     FUZSBANEL_TOO_LONG = 32           /* an update or question of more than 65,535 bytes */
 };
 
@@ -192,19 +192,25 @@ int64_t fuzsbanel_data_text(const uint8_t *message, size_t len, size_t place, ui
 /* ---- zone text (RFC 1035, 5.1), UTF-8
  *
  * `origin` is the text of a name, as `example.`; of no bytes, there is none, and the text has to have an `$ORIGIN`. A
- * record has to have a TTL, on its line or any before it, or by `$TTL`. What lacks these is refused with 19. */
+ * record has to have a TTL, on its line or any before it, or by `$TTL`. What lacks these is refused with 19. A type may
+ * stand as `TYPE` and its number, and data of any type in the generic form, as `\# 4 C0000201` (RFC 3597, 5): the number of
+ * bytes, and their hexadecimal digits, which blanks may part; `\# 0` is a record without data, as an update may add one. */
 
 /* Writes the zone of a text as zone text: `$ORIGIN`, and each record on a line of its own, in the order of owners and
- * types. No text is there to be included. Refuses with 17 to 24. */
+ * types, its names absolute: types without a name, data without a form of its own and records without data stand in the
+ * generic form. So what is written can be read again. No text is there to be included. Refuses with 17 to 24, and with 31
+ * for a relative name in data. */
 int64_t fuzsbanel_zone(const uint8_t *origin, size_t origin_len, const uint8_t *text, size_t text_len, uint8_t *out,
                        size_t cap, size_t *needed);
 
 /* Writes what the server of the zone `origin` makes of an update message and the zone's text: a line with its code, as
- * `NoError` or `YXRRSet`, and the zone then, as fuzsbanel_zone has it (RFC 2136, 3). Of any code but `NoError` the zone is
- * as it was. An `$ORIGIN` of the text says how its names end, and never which zone it is. Two things are the caller's:
- * the SOA's serial stays as it was, since RFC 2136, 3.6 leaves it to the server when it is raised; and an update with a
- * record of type SOA, or of another type that the updates below refuse with 29, is answered `NotImp` as a whole. Refuses
- * with the update's first fault, with 26, as fuzsbanel_zone does, and with 25 for a zone of another class than IN. */
+ * `NoError` or `YXRRSet`, and the zone then, as fuzsbanel_zone has it (RFC 2136, 3), which is the text of the next call.
+ * Of any code but `NoError` the zone is as it was. An `$ORIGIN` of the text says how its names end, and never which zone
+ * it is. Three things are the caller's: the SOA's serial stays as it was, since RFC 2136, 3.6 leaves it to the server when
+ * it is raised; an update with a record of type SOA, or of another type that the updates below refuse with 29, is answered
+ * `NotImp` as a whole; and of two ANAME records of an owner, which an update may leave, the next call reads the last.
+ * Refuses with the update's first fault, with 26, as fuzsbanel_zone does, and with 25 for a zone of another class than
+ * IN. */
 int64_t fuzsbanel_apply(const uint8_t *update, size_t update_len, const uint8_t *origin, size_t origin_len,
                         const uint8_t *text, size_t text_len, uint8_t *out, size_t cap, size_t *needed);
 

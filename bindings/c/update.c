@@ -16,7 +16,19 @@ static const char first_zone[] = "@ 3600 SOA ns hostmaster 1 2 3 4 5\n@ 3600 NS 
 static const char www[] = "www 300 A 192.0.2.2\n";
 static const char two[] = "www 300 A 192.0.2.2\nwww 300 A 192.0.2.3\n";
 
-enum kind { CREATE, APPEND, SWAP, CREATE_AGAIN, APPEND_OTHER, DELETE_DATA, DELETE_SET, DELETE_ALL, KINDS };
+enum kind {
+    CREATE,
+    APPEND,
+    SWAP,
+    CREATE_AGAIN,
+    APPEND_OTHER,
+    APPEND_GENERIC,
+    CREATE_EMPTY,
+    DELETE_DATA,
+    DELETE_SET,
+    DELETE_ALL,
+    KINDS
+};
 
 static int64_t built(enum kind kind, uint8_t *out, size_t cap, size_t *needed)
 {
@@ -30,6 +42,11 @@ static int64_t built(enum kind kind, uint8_t *out, size_t cap, size_t *needed)
         return fuzsbanel_compare_and_swap(3, TEXT(ORIGIN), TEXT(two), TEXT("www 60 A 192.0.2.4\n"), true, out, cap, needed);
     case APPEND_OTHER:
         return fuzsbanel_append(4, TEXT(ORIGIN), TEXT("ftp 300 A 192.0.2.5\n"), false, true, out, cap, needed);
+    case APPEND_GENERIC: /* CAA, 0 issue "ca", in the generic form (RFC 3597, 5; RFC 8659, 4) */
+        return fuzsbanel_append(8, TEXT(ORIGIN), TEXT("www 300 TYPE257 \\# 9 000569737375656361\n"), false, false, out, cap,
+                                needed);
+    case CREATE_EMPTY:
+        return fuzsbanel_create(9, TEXT(ORIGIN), TEXT("e 300 A \\# 0\n"), false, out, cap, needed);
     case DELETE_DATA:
         return fuzsbanel_delete_by_rdata(5, TEXT(ORIGIN), TEXT("www 0 A 192.0.2.4\n"), false, out, cap, needed);
     case DELETE_SET:

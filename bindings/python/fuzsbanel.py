@@ -406,7 +406,8 @@ def options(data: bytes) -> Iterator[EdnsOption]:
 
 
 def zone(origin: str, zone_text: str) -> str:
-    """The zone of a text, as zone text; an empty origin is none."""
+    """The zone of a text, as zone text that can be read again; an empty origin is none. Types and data may stand in the
+    generic form too (RFC 3597, 5)."""
     return filled(2 * len(zone_text), "zone", origin, zone_text).decode()
 
 
@@ -509,6 +510,18 @@ __test__ = {
     ['NoError']
     >>> after(delete_all(6, "example.", "www.example."), filled_zone)
     ['NoError']
+    >>> kept = apply(append(8, "example.", "www 300 TYPE257 \\\\# 9 000569737375656361"), "example.", filled_zone)
+    >>> kept = apply(create(9, "example.", "e 300 A \\\\# 0"), "example.", kept.partition("\\n")[2]).partition("\\n")[2]
+    >>> print(zone("example.", kept), end="")
+    $ORIGIN example.
+    example. 300 IN SOA ns.example. hostmaster.example. 1 2 3 4 5
+    e.example. 300 IN A \\# 0
+    www.example. 300 IN A 192.0.2.2
+    www.example. 300 IN TYPE257 \\# 9 000569737375656361
+    >>> zone("", "b. 5 NS x\\n$ORIGIN a.")
+    Traceback (most recent call last):
+    ...
+    fuzsbanel.Refusal: 31: a name in data that is relative, which no message can have
     >>> zone_transfer(7, "example.").hex()
     '000700000001000000000001076578616d706c650000fc000100002904d0000000000000'
     """,

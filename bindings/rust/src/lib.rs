@@ -66,11 +66,12 @@ pub fn text(message: &[u8]) -> Result<String, Error> {
 }
 
 /// The zone of a text, as zone text: its origin, and each record on a line of its own, in the order of owners and types
-/// (RFC 1035, 5.1). An empty `origin` is none.
+/// (RFC 1035, 5.1). An empty `origin` is none. Types may stand as `TYPE` and their number too, and data of any type in the
+/// generic form (RFC 3597, 5). What comes can be read again.
 ///
 /// # Errors
 ///
-/// The text's first fault.
+/// The text's first fault, and [`Error::NotOnWire`] for a relative name in data.
 pub fn zone(origin: &str, text: &str) -> Result<String, Error> {
     calls::text(filled(2 * text.len(), |out, cap, needed| {
         // SAFETY: as in `cut`.

@@ -175,6 +175,44 @@ fn zone_text_is_read() {
     assert_eq!(fuzsbanel::zone("..", ""), Err(Error::BadText));
 }
 
+// the examples of RFC 3597, 5; a name in data without an origin
+#[test]
+fn the_generic_form_is_read() {
+    let text = "a 5 TYPE731 \\# 6 abcd (\n ef 01 23 45 )\ne 5 TYPE1 \\# 4 0A000001\n";
+    let zone = fuzsbanel::zone("example.", text).unwrap();
+    let lines = "$ORIGIN example.\na.example. 5 IN TYPE731 \\# 6 abcdef012345\ne.example. 5 IN A 10.0.0.1\n";
+    assert_eq!(zone, lines);
+    assert_eq!(
+        fuzsbanel::zone("example.", "a 5 A \\# 3 0A000001\n"),
+        Err(Error::BadText)
+    );
+    assert_eq!(
+        fuzsbanel::zone("", "b. 5 NS x\n$ORIGIN a.\n"),
+        Err(Error::NotOnWire)
+    );
+}
+
+#[test]
+fn what_is_written_is_read_again() {
+    let mut zone = ZONE.to_owned();
+    let added = [
+        "www 300 TYPE257 \\# 9 000569737375656361",
+        "www 300 DS \\# 24 ec4505012bb183af5f22588179a53b0a98631fad1a292118",
+        "www 300 A \\# 0",
+    ];
+    for set in added {
+        let update = fuzsbanel::append(8, "example.", set, false, false).unwrap();
+        let lines = fuzsbanel::apply(&update, "example.", &zone).unwrap();
+        let (code, after) = lines.split_once('\n').unwrap();
+        assert_eq!(code, "NoError");
+        zone = after.to_owned();
+    }
+    assert_eq!(fuzsbanel::zone("example.", &zone).unwrap(), zone);
+    for set in added {
+        assert!(zone.contains(&set.replace("www ", "www.example. ").replace(" 300 ", " 300 IN ")));
+    }
+}
+
 #[test]
 fn updates_are_built_and_applied() {
     let update = fuzsbanel::create(1, "example.", "www 300 A 192.0.2.2\n", false).unwrap();

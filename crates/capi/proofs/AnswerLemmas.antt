@@ -1,9 +1,9 @@
--- What stands in the caller's buffer.
-use Rattle.std.proofs.Common.{◌∙◌, ◌<◌, ◌≤◌, inl, inr, ap, arith, drop, length, sym, subst, take, Err, List, Ok, Result, ℕ}
+-- What stands in the caller's buffer, and how refusals are handed on.
+use Rattle.std.proofs.Common.{Bool, IsTrue, ◌∙◌, ◌≡◌, ◌⊎◌, ◌<◌, ◌≤◌, false, inl, inr, ap, arith, drop, length, rules, sym, subst, take, Err, List, Ok, Result, ℕ}
 use Rattle.std.proofs.lemmas.List.{take_at}
 use Rattle.std.specs.Prelude.{IfOk, Vec, ℤ}
 use Rattle.std.specs.declared.alloc.Global.{Global}
-use Rattle.capi.specs.Answer.{Asked, IsAnsweredBy, IsLeft, MakesBy, bytes_made}
+use Rattle.capi.specs.Answer.{Asked, ◌>>=◌, IsAnsweredBy, IsLeft, MakesBy, bytes_made}
 use Rattle.capi.specs.declared.refusal.Refusal.{Refusal}
 
 -- what holds of the bytes that were made holds of those that were put into a buffer with room for them
@@ -19,3 +19,26 @@ pub answered_by : (Comes : Asked (List ℕ) → Type 0) (made : Result (Vec ℕ 
     → MakesBy Comes made → IsLeft (bytes_made made) old new needed result → IsAnsweredBy Comes old new needed result
 answered_by Comes made old new needed result (inl comes) left = inl (bytes_made made, comes, left)
 answered_by Comes made old new needed result (inr memory) left = inr (subst (λ m. IsLeft m old new needed result) memory left)
+
+-- ---- refusals
+
+-- a refusal comes of what refuses, or memory ran out
+pub refusal_comes : {P : Type 0} (Comes : Asked (List ℕ) → Type 0) (number : ℕ) → (number ≡ 3) ⊎ P → (P → Comes (Err number))
+    → Comes (Err number) ⊎ (◌≡◌ {A = Asked (List ℕ)} (Err number) (Err 3))
+refusal_comes Comes number (inl memory) refuses = inr (ap (λ x. Err x) memory)
+refusal_comes Comes number (inr is) refuses = inl (refuses is)
+
+module _ {A B : Type 0} (asked : Asked A) (next : A → Asked B) (number : ℕ) where
+  -- what is asked for first refuses all
+  pub first_refused : (number ≡ 3) ⊎ (asked ≡ Err number) → (number ≡ 3) ⊎ ((asked >>= next) ≡ Err number)
+  first_refused (inl memory) = inl memory
+  first_refused (inr is) = inr (ap (λ (a : Asked A). a >>= next) is)
+
+  -- and so does what is asked for next
+  pub next_refused : (x : A) → asked ≡ Ok x → (number ≡ 3) ⊎ (next x ≡ Err number) → (number ≡ 3) ⊎ ((asked >>= next) ≡ Err number)
+  next_refused x found (inl memory) = inl memory
+  next_refused x found (inr is) = inr (ap (λ (a : Asked A). a >>= next) found ∙ is)
+
+-- what is told not to fit doesn't
+pub not_fitting : (Fits : Type 0) (told : Bool) → (Fits → IsTrue told) → told ≡ false → ¬ Fits
+not_fitting Fits told says is = λ fits. search (rules, subst IsTrue is (says fits))

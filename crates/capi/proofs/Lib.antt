@@ -1,5 +1,4 @@
 mod AnswerLemmas
-mod ApplyLemmas
 mod MessageLemmas
 mod SentLemmas
 mod SoundLemmas

@@ -1,17 +1,14 @@
 -- What is written of a message, as TC of its header says: all of it, or a part.
-use Rattle.std.proofs.Common.{Bool, Err, IsTrue, List, Ok, Result, [], ap, false, inl, inr, refl, rules, subst, sym, true, ℕ, ◌∷◌, ◌≡◌, ◌⊎◌, ◌∙◌}
-use Rattle.std.specs.Prelude.{Option, None, Some, Vec, if◌then◌else◌, ◌||◌}
+use Rattle.std.proofs.Common.{Bool, Err, List, Ok, Result, [], ap, false, inl, inr, refl, sym, true, ℕ, ◌∷◌, ◌≡◌, ◌⊎◌, ◌∙◌}
+use Rattle.std.specs.Prelude.{IfOk, Option, None, Some, Vec, ℤ, if◌then◌else◌, ◌||◌}
 use Rattle.std.specs.declared.alloc.Global.{Global}
-use Rattle.base.specs.Labels.{NameValue}
 use Rattle.base.specs.ProtoError.{proto_number}
 use Rattle.base.specs.Reading.{Read}
 use Rattle.base.specs.declared.error.proto_error.ProtoError.{ProtoError}
 use Rattle.base.specs.declared.error.proto_error.ProtoError.TheVariants as refusals
 use Rattle.base.specs.declared.record_type.RecordType.{RecordType}
-use Rattle.base_data.specs.declared.rdata.soa.SOA.{SOA}
 use Rattle.op.proofs.HeaderReading.{reads_word}
-use Rattle.op.specs.Cut.{IsUncut, IsWritten, any_lost}
-use Rattle.op.specs.Fits.{Fits}
+use Rattle.op.specs.Cut.{IsWritten, any_lost}
 use Rattle.op.specs.Header.{IsHeaderAt, header_at}
 use Rattle.op.specs.Message.{MessageValue, high_code}
 use Rattle.op.specs.MessageWritten.{message_answer}
@@ -19,12 +16,12 @@ use Rattle.op.specs.declared.edns.Edns.{Edns}
 use Rattle.op.specs.declared.header.Header.{Header}
 use Rattle.op.specs.declared.header.metadata.Metadata.{Metadata}
 use Rattle.op_use.specs.SoundSet.{is_supported_type}
-use Rattle.op_use.specs.UpdateMessage.{transfer_message}
-use Rattle.capi.specs.Answer.{Asked, ◌>>=◌, MakesBy, written}
-use Rattle.capi.specs.Update.{IsCutShort, IsSent, IsWhole, asked_of, of_type, soa_of_text, transfer_of}
-use Rattle.capi.specs.Update.IsSent.{refused, unwritten}
-use Rattle.capi.specs.ZoneText.{zone_name_of}
+use Rattle.capi.proofs.AnswerLemmas.{answered_by, put_holds}
+use Rattle.capi.specs.Answer.{Asked, IsLeft, MakesBy, bytes_made, written}
+use Rattle.capi.specs.Update.{IsCutShort, IsSent, IsUpdate, IsUpdateAnswered, IsWhole, of_type, update_asked}
+use Rattle.capi.specs.Update.IsSent.{unwritten}
 use Rattle.capi.specs.declared.refusal.Refusal.{Refusal}
+use Rattle.capi.specs.declared.update.built.Change.{Change}
 
 -- what isn't written of a message is refused with that number, or memory ran out
 pub unsent : (m : MessageValue) (e : ProtoError) → (e ≡ refusals.Memory) ⊎ (message_answer 65535 m ≡ Err e)
@@ -32,42 +29,14 @@ pub unsent : (m : MessageValue) (e : ProtoError) → (e ≡ refusals.Memory) ⊎
 unsent m e (inl memory) = inr (ap (λ x. Err (proto_number x)) memory)
 unsent m e (inr is) = inl (unwritten refl (ap written is))
 
--- what is told not to fit doesn't
-pub not_fitting : (m : MessageValue) (told : Bool) → (Fits m → IsTrue told) → told ≡ false → ¬ (Fits m)
-not_fitting m told says is = λ fits. search (rules, subst IsTrue is (says fits))
-
--- what comes of a message comes of what asks for it
-pub sent_as : (asked : Asked MessageValue) (m : MessageValue) (made : Result (Vec ℕ Global) Refusal) → asked ≡ Ok m
-    → MakesBy (IsSent (Ok m)) made → MakesBy (IsSent asked) made
-sent_as asked m made is comes = subst (λ a. MakesBy (IsSent a) made) (sym is) comes
-
--- a refusal before the message is asked for is that of what asks
-pub unasked : (asked : Asked MessageValue) (number : ℕ) → (number ≡ 3) ⊎ (asked ≡ Err number)
-    → IsSent asked (Err number) ⊎ (◌≡◌ {A = Asked (List ℕ)} (Err number) (Err 3))
-unasked asked number (inl memory) = inr (ap (λ x. Err x) memory)
-unasked asked number (inr is) = inl (refused is)
-
--- what a message of a zone is asked for, where the zone has a name, and where it has none
-pub asked_named : (origin : List ℕ) (build : NameValue → Asked MessageValue) (zone : NameValue) (made : Asked MessageValue)
-    → zone_name_of origin ≡ Ok zone → build zone ≡ made → asked_of origin build ≡ made
-asked_named origin build zone made named is = ap (λ z. ◌>>=◌ {A = NameValue} {B = MessageValue} z build) named ∙ is
-
-pub asked_unbuilt : (origin : List ℕ) (build : NameValue → Asked MessageValue) (zone : NameValue) (number : ℕ)
-    → zone_name_of origin ≡ Ok zone → (number ≡ 3) ⊎ (build zone ≡ Err number) → (number ≡ 3) ⊎ (asked_of origin build ≡ Err number)
-asked_unbuilt origin build zone number named (inl memory) = inl memory
-asked_unbuilt origin build zone number named (inr is) = inr (asked_named origin build zone (Err number) named is)
-
-pub asked_unnamed : (origin : List ℕ) (build : NameValue → Asked MessageValue) (number : ℕ) → (number ≡ 3) ⊎ (zone_name_of origin ≡ Err number)
-    → (number ≡ 3) ⊎ (asked_of origin build ≡ Err number)
-asked_unnamed origin build number (inl memory) = inl memory
-asked_unnamed origin build number (inr is) = inr (ap (λ z. ◌>>=◌ {A = NameValue} {B = MessageValue} z build) is)
-
--- a text that is no SOA asks for no transfer
-pub soa_unread : (id : ℕ) (last : List ℕ) (zone : NameValue) (number : ℕ) → (number ≡ 3) ⊎ (soa_of_text zone last ≡ Err number)
-    → (number ≡ 3) ⊎ (transfer_of id last zone ≡ Err number)
-soa_unread id last zone number (inl memory) = inl memory
-soa_unread id last zone number (inr is) =
-    inr (ap (λ z. ◌>>=◌ {A = Option SOA} {B = MessageValue} z (λ soa. Ok (transfer_message id zone soa))) is)
+-- what comes of an update is answered by what is left of it
+pub update_answered : (id : ℕ) (use_edns : Bool) (origin : List ℕ) (change : Change) (made : Result (Vec ℕ Global) Refusal) (old new : List ℕ) (needed : ℕ) (result : ℤ)
+    → MakesBy (IsSent (update_asked id use_edns origin change)) made → IfOk made (λ bytes. IsUpdate origin change bytes.items)
+    → IsLeft (bytes_made made) old new needed result → IsUpdateAnswered id use_edns origin change old new needed result
+update_answered id use_edns origin change made old new needed result comes means left = record {
+  sent = answered_by (IsSent (update_asked id use_edns origin change)) made old new needed result comes left;
+  update = λ some room. put_holds (IsUpdate origin change) made old new needed result means left some room;
+}
 
 -- ---- types
 

@@ -1,20 +1,25 @@
 -- What applying an update to zone text is asked for.
-use Rattle.std.specs.Prelude.{List, Some, ℕ}
-use Rattle.op.specs.Message.{message_at}
+use Rattle.std.specs.Prelude.{List, Ok, Some, ℕ}
+use Rattle.base.specs.Labels.{NameValue}
 use Rattle.op_use.specs.Server.{Sections, sections_of}
 use Rattle.parsed_zone.specs.Applied.{lines_after}
-use Rattle.parsed_zone.specs.ZoneText.{zone_of_bytes}
-use Rattle.txt.specs.Zone.{no_texts}
-use Rattle.capi.specs.Answer.{Asked, ◌>>=◌, read}
-use Rattle.capi.specs.ZoneText.{zone_name_of}
+use Rattle.parsed_zone.specs.ZoneText.{generic_zone_of_bytes}
+use Rattle.txt.specs.ZoneSets.{ZoneSets}
+use Rattle.capi.specs.Answer.{Asked, ◌>>=◌}
+use Rattle.capi.specs.Message.{message_of}
+use Rattle.capi.specs.ZoneText.{IsZoneText, zone_name_of}
 
--- what an update makes of the zone of an origin, whose sets a text has: 25 for another class than IN
-abbrev pub applied_to : Sections → List ℕ → List ℕ → Asked (List ℕ)
-applied_to update origin text =
-    zone_name_of origin >>= λ zone. zone_of_bytes no_texts (Some zone) text
-    >>= λ parsed. lines_after update (zone, parsed.1)
+-- an update, and the zone of an origin with the sets of a text
+abbrev pub UpdateOfZone : Type 0
+UpdateOfZone = Sections × (NameValue × ZoneSets)
 
--- what the message that the bytes begin with makes of it
-abbrev pub applied_text : List ℕ → List ℕ → List ℕ → Asked (List ℕ)
-applied_text update origin text =
-    read (message_at update 0) >>= λ m. applied_to (sections_of m) origin text
+-- the update that the bytes begin with, and that zone
+abbrev pub update_and_zone : List ℕ → List ℕ → List ℕ → Asked UpdateOfZone
+update_and_zone update origin text =
+    message_of update >>= λ m. zone_name_of origin >>= λ zone.
+    generic_zone_of_bytes (Some zone) text >>= λ parsed. Ok (sections_of m, (zone, parsed.1))
+
+-- what comes of the update: its code and the zone then, a line each; 25 for another class than IN
+abbrev pub IsApplied : List ℕ → List ℕ → List ℕ → Asked (List ℕ) → Type 0
+IsApplied update origin text = IsZoneText (λ (x : UpdateOfZone). x.1.1)
+    (λ x. lines_after x.0 x.1) (update_and_zone update origin text)

@@ -1,6 +1,6 @@
 -- What the builders of updates are asked for, as texts, and what is sent.
 use Rattle.base.specs.declared.limits.TheConstants.{MAX_MESSAGE}
-use Rattle.std.specs.Prelude.{ℕ, Bool, List, [], ◌∷◌, ◌≡◌, if◌then◌else◌, length, Option, Some, None, Ok, Err, slice_get, true}
+use Rattle.std.specs.Prelude.{ℕ, ℤ, ◌<◌, ◌≤◌, Bool, take, List, [], ◌∷◌, ◌≡◌, if◌then◌else◌, length, Option, Some, None, Ok, Err, slice_get, true}
 use Rattle.base.specs.Labels.{NameValue}
 use Rattle.base.specs.NameOf.{name_of}
 use Rattle.base.specs.NameOrder.{is_zone_of, same_name}
@@ -20,12 +20,11 @@ use Rattle.base_data.specs.declared.rdata.RData.TheVariants as kinds
 use Rattle.base_data.specs.declared.rdata.soa.SOA.{SOA}
 use Rattle.rr.specs.RecordSet.{SetValue}
 use Rattle.rr.specs.declared.record.Record.{Record}
-use Rattle.txt.specs.Zone.{no_texts}
 use Rattle.txt.specs.ZoneSets.{ZoneSets}
 use Rattle.parsed_zone.specs.Classes.{are_sets_in}
 use Rattle.parsed_zone.specs.Faults.{numbered}
-use Rattle.parsed_zone.specs.ZoneText.{zone_of_bytes}
-use Rattle.capi.specs.Answer.{Asked, ◌>>=◌, written}
+use Rattle.parsed_zone.specs.ZoneText.{generic_zone_of_bytes}
+use Rattle.capi.specs.Answer.{Asked, IsAnsweredBy, ◌>>=◌, written}
 use Rattle.capi.specs.Refusals.{not_on_wire, not_one_set, not_soa, other_class, other_type, outside, too_long}
 use Rattle.capi.specs.ZoneText.{characters, zone_name_of}
 use Rattle.capi.specs.declared.update.built.Change.{Change}
@@ -54,7 +53,7 @@ of_type type = if is_supported_type type then Ok type else Err other_type
 -- the one set of the class IN that zone text has, if its owner lies in the zone
 abbrev pub one_set : NameValue → List ℕ → Asked SetValue
 one_set origin text =
-    zone_of_bytes no_texts (Some origin) text >>= λ zone. in_class zone.1 >>= λ sets. only_set sets
+    generic_zone_of_bytes (Some origin) text >>= λ zone. in_class zone.1 >>= λ sets. only_set sets
     >>= λ set. within origin set
 
 -- that set, if updates can change its type
@@ -187,3 +186,10 @@ pub record IsUpdate (origin : List ℕ) (change : Change) (B : List ℕ) : Type 
   pub message : MessageValue
   pub whole : IsWhole message B
   pub means : Means change zone message
+
+-- What a caller is left with of an update: what comes of the message, and bytes that the buffer has room for are all of
+-- it, and mean this.
+pub record IsUpdateAnswered (id : ℕ) (use_edns : Bool) (origin : List ℕ) (change : Change)
+    (old new : List ℕ) (needed : ℕ) (result : ℤ) : Type 0 where
+  pub sent : IsAnsweredBy (IsSent (update_asked id use_edns origin change)) old new needed result
+  pub update : 0 < needed → needed ≤ length old → IsUpdate origin change (take needed new)

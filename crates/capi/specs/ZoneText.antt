@@ -1,14 +1,17 @@
 -- What calls on zone text are asked for.
-use Rattle.std.specs.Prelude.{ℕ, List, [], ◌∷◌, ◌==◌, if◌then◌else◌, length, Option, Some, None, Ok, Err, true}
+use Rattle.std.specs.List.{AllByRecursion}
+use Rattle.std.specs.Map.{values_of}
+use Rattle.std.specs.Prelude.{All, ℕ, List, [], ◌∷◌, ◌==◌, ◌≡◌, if◌then◌else◌, length, Option, Some, None, Ok, Err, true}
 use Rattle.std.specs.Str.{is_utf8}
 use Rattle.base.specs.Labels.{NameValue}
 use Rattle.base.specs.NameOf.{name_of}
+use Rattle.rr.specs.Record.{FitsRecord}
+use Rattle.rr.specs.RecordSet.{SetValue}
 use Rattle.txt.specs.ZoneSets.{ZoneSets}
 use Rattle.parsed_zone.specs.Faults.{numbered}
-use Rattle.parsed_zone.specs.ZoneText.{zone_lines, zone_of_bytes}
-use Rattle.txt.specs.Zone.{no_texts}
+use Rattle.parsed_zone.specs.ZoneText.{generic_zone_of_bytes, zone_lines}
 use Rattle.capi.specs.Answer.{Asked, ◌>>=◌}
-use Rattle.capi.specs.Refusals.{no_origin, not_utf8}
+use Rattle.capi.specs.Refusals.{no_origin, not_on_wire, not_utf8}
 
 -- a text of characters
 abbrev pub characters : List ℕ → Asked (List ℕ)
@@ -31,8 +34,22 @@ origin_of_text (c ∷ cs) = name_of_text (c ∷ cs) >>= λ name. Ok (Some name)
 
 -- the zone of a text under the origin that a text names, if it does
 abbrev pub zone_of_text : List ℕ → List ℕ → Asked (NameValue × ZoneSets)
-zone_of_text origin text = origin_of_text origin >>= λ under. zone_of_bytes no_texts under text
+zone_of_text origin text = origin_of_text origin >>= λ under. generic_zone_of_bytes under text
 
--- the zone of a text, as text
-abbrev pub canonical_text : List ℕ → List ℕ → Asked (List ℕ)
-canonical_text origin text = zone_of_text origin text >>= λ zone. Ok (zone_lines zone)
+-- Each record of the sets can stand on the wire, so each name of its data is absolute (RFC 1035, 3.1 and 3.2.1).
+abbrev pub FitsWire : ZoneSets → Type 0
+FitsWire sets = AllByRecursion (λ (s : SetValue). All FitsRecord s.records) (values_of sets)
+
+-- What comes of something asked for that has these sets and makes these lines: the lines, or why there are none.
+pub data IsZoneText {A : Type 0} (sets : A → ZoneSets) (lines : A → Asked (List ℕ))
+    (asked : Asked A) : Asked (List ℕ) → Type 0 where
+  refused : {number : ℕ} → asked ≡ Err number → IsZoneText sets lines asked (Err number)
+  unfit : {x : A} → asked ≡ Ok x → ¬ FitsWire (sets x)
+      → IsZoneText sets lines asked (Err not_on_wire)
+  written : {x : A} {made : Asked (List ℕ)} → asked ≡ Ok x → FitsWire (sets x) → lines x ≡ made
+      → IsZoneText sets lines asked made
+
+-- what comes of the zone of a text: its origin and its records, a line each
+abbrev pub IsCanonical : List ℕ → List ℕ → Asked (List ℕ) → Type 0
+IsCanonical origin text = IsZoneText (λ (zone : NameValue × ZoneSets). zone.1)
+    (λ zone. Ok (zone_lines zone)) (zone_of_text origin text)

@@ -1,18 +1,28 @@
 //! Updates applied to zone text (RFC 2136, 3).
 
-ghost use Rattle.capi.specs.Answer.{IsAnswered, Makes};
-ghost use Rattle.capi.specs.Applied.{applied_text};
+ghost use Rattle.std.specs.Prelude.{IfOk};
+ghost use Rattle.op.specs.Message.{message_value};
+ghost use Rattle.op_use.specs.Server.{sections_of};
+ghost use Rattle.txt.specs.ZoneSets.{AreKeyed};
+ghost use Rattle.capi.specs.Answer.{IsAnsweredBy, Makes, MakesBy};
+ghost use Rattle.capi.specs.Applied.{IsApplied, update_and_zone};
 
 use crate::answer::give;
+use crate::fits::fits_wire;
+use crate::message::message_of;
 use crate::refusal::Refusal;
 use crate::zone::zone_name_of;
+use base::{Name, RrKey};
 use op::Message;
-use parsed_zone::{lines_after, zone_of_bytes};
+use parsed_zone::{generic_zone_of_bytes, lines_after};
+use rr::RecordSet;
 use std::alloc::Global;
+use std::collections::BTreeMap;
 
 /// Writes what a server of the zone of an origin makes of an update and the zone's text into the caller's buffer: the
 /// name of its code on a line, and the zone then, as `fuzsbanel_zone` writes it (RFC 2136, 3). With any code but NoError
-/// the zone is as it was. An `$ORIGIN` of the text is that of names, and never of the zone.
+/// the zone is as it was. An `$ORIGIN` of the text is that of names, and never of the zone. The text is read as
+/// `fuzsbanel_zone` reads one, so what is written after the first line can be the text of the next call.
 ///
 /// # Errors
 ///
@@ -27,7 +37,7 @@ pub extern "C" fn fuzsbanel_apply(
     out: &mut [u8],
     needed: &mut usize,
 ) -> i64
-    ensures { IsAnswered (applied_text update.now origin.now text.now)
+    ensures { IsAnsweredBy (IsApplied update.now origin.now text.now)
         out.old out.new needed.new result }
 {
     give(apply(alloc, update, origin, text), out, needed)
@@ -35,10 +45,29 @@ pub extern "C" fn fuzsbanel_apply(
 
 /// The code and the zone after the update.
 fn apply(alloc: Global, update: &[u8], origin: &[u8], text: &[u8]) -> Result<Vec<u8>, Refusal>
-    ensures { Makes (λ lines. lines.items) (applied_text update.now origin.now text.now) result }
+    ensures { MakesBy (IsApplied update.now origin.now text.now) result }
 {
-    let message = Message::from_vec(alloc, update)?;
-    let zone = zone_name_of(alloc, origin)?;
-    let (_origin, sets) = zone_of_bytes(alloc, Some(zone.clone()?), text)?;
+    let (message, zone, sets) = update_and_zone(alloc, update, origin, text)?;
+    if !fits_wire(&sets) {
+        return Err(Refusal::NOT_ON_WIRE);
+    }
     Ok(lines_after(alloc, &message, &zone, &sets)?.into_bytes())
+}
+
+/// The update, and the zone of the origin with the sets of the text.
+fn update_and_zone(
+    alloc: Global,
+    update: &[u8],
+    origin: &[u8],
+    text: &[u8],
+) -> Result<(Message, Name, BTreeMap<RrKey, RecordSet>), Refusal>
+    ensures made { Makes (λ x. (sections_of (message_value x.0), (x.1, x.2.entries)))
+        (update_and_zone update.now origin.now text.now) result }
+    // Each set stands under the key of its owner and type, has a record and is tidy.
+    ensures kept { IfOk result (λ x. AreKeyed x.2.entries) }
+{
+    let message = message_of(alloc, update)?;
+    let zone = zone_name_of(alloc, origin)?;
+    let (_origin, sets) = generic_zone_of_bytes(alloc, Some(zone.clone()?), text)?;
+    Ok((message, zone, sets))
 }

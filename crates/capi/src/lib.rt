@@ -6,6 +6,7 @@
 
 mod answer;
 mod applied;
+mod fits;
 mod header;
 mod message;
 mod refusal;

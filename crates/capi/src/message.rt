@@ -1,8 +1,9 @@
 //! Messages (RFC 1035, 4.1).
 
 ghost use Rattle.std.specs.Prelude.{◌≡◌, ◌⊎◌, ◌<◌, ◌≤◌, ◌^◌, Err, IfErr, IfOk, Ok, length, take};
+ghost use Rattle.op.specs.Message.{message_value};
 ghost use Rattle.capi.specs.Answer.{IsAnswered, IsNumbered, Makes};
-ghost use Rattle.capi.specs.Message.{IsCutOf, cut_of, end_of, text_of};
+ghost use Rattle.capi.specs.Message.{IsCutOf, cut_of, end_of, message_of, text_of};
 
 use crate::answer::{give, number};
 use crate::refusal::Refusal;
@@ -87,6 +88,17 @@ fn cut(alloc: Global, bytes: &[u8], limit: u16) -> Result<Vec<u8>, Refusal>
 fn text(alloc: Global, bytes: &[u8]) -> Result<Vec<u8>, Refusal>
     ensures { Makes (λ text. text.items) (text_of bytes.now) result }
 {
-    let message = Message::from_vec(alloc, bytes)?;
+    let message = message_of(alloc, bytes)?;
     Ok(message.to_string(alloc)?.into_bytes())
+}
+
+/// The message that the bytes begin with.
+///
+/// # Errors
+///
+/// The number of the first fault.
+pub fn message_of(alloc: Global, bytes: &[u8]) -> Result<Message, Refusal>
+    ensures { Makes message_value (message_of bytes.now) result }
+{
+    Ok(Message::from_vec(alloc, bytes)?)
 }

@@ -4,9 +4,8 @@
 //! lies in the zone, of a type that updates can change. Each message is written whole or not at all, and with `use_edns`
 //! takes answers of up to 1232 bytes.
 
-ghost use Rattle.std.specs.Prelude.{◌<◌, ◌≤◌, length, take};
 ghost use Rattle.capi.specs.Answer.{IsAnsweredBy};
-ghost use Rattle.capi.specs.Update.{IsSent, IsUpdate, transfer_asked, update_asked};
+ghost use Rattle.capi.specs.Update.{IsSent, IsUpdateAnswered, transfer_asked};
 ghost use Rattle.capi.specs.declared.update.built.Change.TheVariants as changes;
 
 mod built;
@@ -34,12 +33,8 @@ pub extern "C" fn fuzsbanel_create(
     out: &mut [u8],
     needed: &mut usize,
 ) -> i64
-    ensures sent { IsAnsweredBy (IsSent (update_asked id use_edns origin.now
-        (changes.Create set.entry)))
+    ensures { IsUpdateAnswered id use_edns origin.now (changes.Create set.entry)
         out.old out.new needed.new result }
-    // Bytes that the caller's buffer has room for are all of that update, and mean this.
-    ensures update { 0 < needed.new → needed.new ≤ length out.old
-        → IsUpdate origin.now (changes.Create set.entry) (take needed.new out.new) }
 {
     let change = Change::Create(set);
     give(update(alloc, id, origin, change, use_edns), out, needed)
@@ -62,12 +57,8 @@ pub extern "C" fn fuzsbanel_append(
     out: &mut [u8],
     needed: &mut usize,
 ) -> i64
-    ensures sent { IsAnsweredBy (IsSent (update_asked id use_edns origin.now
-        (changes.Append set.entry must_exist)))
+    ensures { IsUpdateAnswered id use_edns origin.now (changes.Append set.entry must_exist)
         out.old out.new needed.new result }
-    // Bytes that the caller's buffer has room for are all of that update, and mean this.
-    ensures update { 0 < needed.new → needed.new ≤ length out.old
-        → IsUpdate origin.now (changes.Append set.entry must_exist) (take needed.new out.new) }
 {
     let change = Change::Append(set, must_exist);
     give(update(alloc, id, origin, change, use_edns), out, needed)
@@ -90,12 +81,8 @@ pub extern "C" fn fuzsbanel_compare_and_swap(
     out: &mut [u8],
     needed: &mut usize,
 ) -> i64
-    ensures sent { IsAnsweredBy (IsSent (update_asked id use_edns origin.now
-        (changes.CompareAndSwap current.entry next.entry)))
+    ensures { IsUpdateAnswered id use_edns origin.now (changes.CompareAndSwap current.entry next.entry)
         out.old out.new needed.new result }
-    // Bytes that the caller's buffer has room for are all of that update, and mean this.
-    ensures update { 0 < needed.new → needed.new ≤ length out.old
-        → IsUpdate origin.now (changes.CompareAndSwap current.entry next.entry) (take needed.new out.new) }
 {
     let change = Change::CompareAndSwap(current, next);
     give(update(alloc, id, origin, change, use_edns), out, needed)
@@ -116,11 +103,8 @@ pub extern "C" fn fuzsbanel_delete_by_rdata(
     out: &mut [u8],
     needed: &mut usize,
 ) -> i64
-    ensures sent { IsAnsweredBy (IsSent (update_asked id use_edns origin.now
-        (changes.DeleteByRdata set.entry))) out.old out.new needed.new result }
-    // Bytes that the caller's buffer has room for are all of that update, and mean this.
-    ensures update { 0 < needed.new → needed.new ≤ length out.old
-        → IsUpdate origin.now (changes.DeleteByRdata set.entry) (take needed.new out.new) }
+    ensures { IsUpdateAnswered id use_edns origin.now (changes.DeleteByRdata set.entry)
+        out.old out.new needed.new result }
 {
     let change = Change::DeleteByRdata(set);
     give(update(alloc, id, origin, change, use_edns), out, needed)
@@ -144,12 +128,8 @@ pub extern "C" fn fuzsbanel_delete_rrset(
     out: &mut [u8],
     needed: &mut usize,
 ) -> i64
-    ensures sent { IsAnsweredBy (IsSent (update_asked id use_edns origin.now
-        (changes.DeleteRrset owner.entry record_type)))
+    ensures { IsUpdateAnswered id use_edns origin.now (changes.DeleteRrset owner.entry record_type)
         out.old out.new needed.new result }
-    // Bytes that the caller's buffer has room for are all of that update, and mean this.
-    ensures update { 0 < needed.new → needed.new ≤ length out.old
-        → IsUpdate origin.now (changes.DeleteRrset owner.entry record_type) (take needed.new out.new) }
 {
     let change = Change::DeleteRrset(owner, record_type);
     give(update(alloc, id, origin, change, use_edns), out, needed)
@@ -171,12 +151,8 @@ pub extern "C" fn fuzsbanel_delete_all(
     out: &mut [u8],
     needed: &mut usize,
 ) -> i64
-    ensures sent { IsAnsweredBy (IsSent (update_asked id use_edns origin.now
-        (changes.DeleteAll owner.entry)))
+    ensures { IsUpdateAnswered id use_edns origin.now (changes.DeleteAll owner.entry)
         out.old out.new needed.new result }
-    // Bytes that the caller's buffer has room for are all of that update, and mean this.
-    ensures update { 0 < needed.new → needed.new ≤ length out.old
-        → IsUpdate origin.now (changes.DeleteAll owner.entry) (take needed.new out.new) }
 {
     let change = Change::DeleteAll(owner);
     give(update(alloc, id, origin, change, use_edns), out, needed)

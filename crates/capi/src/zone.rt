@@ -2,13 +2,14 @@
 
 ghost use Rattle.std.specs.Prelude.{◌≡◌, IfOk};
 ghost use Rattle.txt.specs.ZoneSets.{AreKeyed};
-ghost use Rattle.capi.specs.Answer.{IsAnswered, Makes};
-ghost use Rattle.capi.specs.ZoneText.{canonical_text, characters, name_of_text, origin_of_text, zone_name_of, zone_of_text};
+ghost use Rattle.capi.specs.Answer.{IsAnsweredBy, Makes, MakesBy};
+ghost use Rattle.capi.specs.ZoneText.{IsCanonical, characters, name_of_text, origin_of_text, zone_name_of, zone_of_text};
 
 use crate::answer::give;
+use crate::fits::fits_wire;
 use crate::refusal::Refusal;
 use base::{Name, RrKey};
-use parsed_zone::{zone_lines, zone_of_bytes};
+use parsed_zone::{generic_zone_of_bytes, zone_lines};
 use rr::RecordSet;
 use std::alloc::Global;
 use std::collections::BTreeMap;
@@ -16,11 +17,13 @@ use std::str;
 
 /// Writes the zone of a text into the caller's buffer, as zone text: the origin, and each record on a line of its own,
 /// in the order of owners and types (RFC 1035, 5.1). The origin is the text of a name, or empty for none. No text is
-/// there to be included.
+/// there to be included. In a text types may also stand as `TYPE` and their number, and data of any type in the generic
+/// form (RFC 3597, 5). All names of records are written absolute, so what is written can be read again.
 ///
 /// # Errors
 ///
-/// 24 for an origin or a text that isn't UTF-8, and the number of what the parser refuses.
+/// 24 for an origin or a text that isn't UTF-8, and the number of what the parser refuses; 31 for a record that can't
+/// stand on the wire, as one with a relative name in its data.
 #[unsafe(no_mangle)]
 pub extern "C" fn fuzsbanel_zone(
     alloc: Global,
@@ -29,16 +32,19 @@ pub extern "C" fn fuzsbanel_zone(
     out: &mut [u8],
     needed: &mut usize,
 ) -> i64
-    ensures { IsAnswered (canonical_text origin.now text.now) out.old out.new needed.new result }
+    ensures { IsAnsweredBy (IsCanonical origin.now text.now) out.old out.new needed.new result }
 {
     give(canonical_text(alloc, origin, text), out, needed)
 }
 
 /// The zone of a text, as text.
 fn canonical_text(alloc: Global, origin: &[u8], text: &[u8]) -> Result<Vec<u8>, Refusal>
-    ensures { Makes (λ lines. lines.items) (canonical_text origin.now text.now) result }
+    ensures { MakesBy (IsCanonical origin.now text.now) result }
 {
     let (name, sets) = zone_of(alloc, origin, text)?;
+    if !fits_wire(&sets) {
+        return Err(Refusal::NOT_ON_WIRE);
+    }
     Ok(zone_lines(alloc, &name, sets)?.into_bytes())
 }
 
@@ -57,7 +63,7 @@ pub fn zone_of(
     ensures kept { IfOk result (λ r. AreKeyed r.1.entries) }
 {
     let origin = origin_of(alloc, origin)?;
-    Ok(zone_of_bytes(alloc, origin, text)?)
+    Ok(generic_zone_of_bytes(alloc, origin, text)?)
 }
 
 /// The origin that a text names, if it isn't empty.

@@ -13,7 +13,7 @@ use crate::zone::characters_of;
 use base::{Name, RecordType, RrKey};
 use base_data::{RData, SOA};
 use op_use::is_supported_type;
-use parsed_zone::{are_sets_in, zone_of_bytes};
+use parsed_zone::{are_sets_in, generic_zone_of_bytes};
 use rr::RecordSet;
 use std::alloc::Global;
 use std::collections::BTreeMap;
@@ -37,7 +37,7 @@ fn one_set(alloc: Global, origin: &Name, text: &[u8]) -> Result<RecordSet, Refus
     ensures within { IfOk result (λ set. is_zone_of origin.now set.name ≡ true) }
     ensures sound { IfOk result (λ set. IsSound set) }
 {
-    let (_origin, sets) = zone_of_bytes(alloc, Some(origin.clone()?), text)?;
+    let (_origin, sets) = generic_zone_of_bytes(alloc, Some(origin.clone()?), text)?;
     if !are_sets_in(&sets) {
         return Err(Refusal::CLASS);
     }

@@ -1,18 +1,13 @@
-use Rattle.std.proofs.Common.{List, rules, ℕ}
-use Rattle.capi.proofs.AnswerLemmas.{answered_by, put_holds}
-use Rattle.capi.specs.Answer.{IsAnsweredBy}
-use Rattle.capi.specs.Update.{IsSent, IsUpdate, update_asked}
+use Rattle.std.proofs.Common.{rules}
+use Rattle.capi.proofs.SentLemmas.{update_answered}
+use Rattle.capi.specs.Update.{IsUpdateAnswered}
 use Rattle.capi.specs.declared.update.built.Change.TheVariants as changes
 use Rattle.capi.proofs.update.fuzsbanel_delete_by_rdata.Goals as goal
 
-pub returns-clause-sent : goal.returns-clause-sent
-returns-clause-sent c =
-    let Comes = IsSent (update_asked c.args.id c.args.use_edns c.args.origin.now (changes.DeleteByRdata c.args.set)) in
-    let answered : IsAnsweredBy Comes c.args.out.now c.give.new.out c.give.new.needed c.give.result =
-    answered_by Comes c.update.result c.args.out.now c.give.new.out c.give.new.needed c.give.result c.update.ensures.sent c.give.ensures in
+pub returns : goal.returns
+returns c =
+    let change = changes.DeleteByRdata c.args.set in
+    let answered : IsUpdateAnswered c.args.id c.args.use_edns c.args.origin.now change c.args.out.now c.give.new.out c.give.new.needed c.give.result =
+    update_answered c.args.id c.args.use_edns c.args.origin.now change c.update.result c.args.out.now c.give.new.out c.give.new.needed c.give.result
+    c.update.ensures.sent c.update.ensures.update c.give.ensures in
     search rules
-
-pub returns-clause-update : goal.returns-clause-update
-returns-clause-update c some room =
-    put_holds (λ (bytes : List ℕ). IsUpdate c.args.origin.now (changes.DeleteByRdata c.args.set) bytes) c.update.result c.args.out.now c.give.new.out c.give.new.needed c.give.result
-    c.update.ensures.update c.give.ensures some room

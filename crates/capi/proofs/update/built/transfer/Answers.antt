@@ -1,19 +1,24 @@
+use Rattle.std.proofs.Common.{Ok}
 use Rattle.std.proofs.lemmas.Result.{err_from_is_err_and}
-use Rattle.capi.proofs.SentLemmas.{asked_unbuilt, asked_unnamed, soa_unread, unasked}
-use Rattle.capi.specs.Update.{transfer_asked, transfer_of}
+use Rattle.op_use.specs.UpdateMessage.{transfer_message}
+use Rattle.capi.proofs.AnswerLemmas.{first_refused, next_refused, refusal_comes}
+use Rattle.capi.specs.Update.{IsSent, soa_of_text, transfer_asked, transfer_of}
+use Rattle.capi.specs.Update.IsSent.{refused}
+use Rattle.capi.specs.ZoneText.{zone_name_of}
 use Rattle.capi.proofs.update.built.transfer.Goals as goal
 
 pub returns-in_err-zone : goal.returns-in_err-zone
 returns-in_err-zone c =
     let p = err_from_is_err_and c.from_residual.result c.from_residual.ensures.1 in
     let number = c.in_err-zone.field-0.0.number in
-    rw (p.1, p.2) (unasked (transfer_asked c.args.id c.args.origin.now c.args.last_soa.now) number
-    (asked_unnamed c.args.origin.now (transfer_of c.args.id c.args.last_soa.now) number c.in_err-zone.ensures))
+    rw (p.1, p.2) (refusal_comes (IsSent (transfer_asked c.args.id c.args.origin.now c.args.last_soa.now)) number
+    (first_refused (zone_name_of c.args.origin.now) (transfer_of c.args.id c.args.last_soa.now) number c.in_err-zone.ensures) (λ is. refused is))
 
 pub returns-in_err-last : goal.returns-in_err-last
 returns-in_err-last c =
     let p = err_from_is_err_and c.from_residual-in_err-last.result c.from_residual-in_err-last.ensures.1 in
     let number = c.in_err-last.field-0.0.number in
-    rw (p.1, p.2) (unasked (transfer_asked c.args.id c.args.origin.now c.args.last_soa.now) number
-    (asked_unbuilt c.args.origin.now (transfer_of c.args.id c.args.last_soa.now) c.in_ok-zone.zone number c.in_ok-zone.ensures
-    (soa_unread c.args.id c.args.last_soa.now c.in_ok-zone.zone number c.in_err-last.ensures)))
+    let zone = c.in_ok-zone.zone in
+    rw (p.1, p.2) (refusal_comes (IsSent (transfer_asked c.args.id c.args.origin.now c.args.last_soa.now)) number
+    (next_refused (zone_name_of c.args.origin.now) (transfer_of c.args.id c.args.last_soa.now) number zone c.in_ok-zone.ensures
+    (first_refused (soa_of_text zone c.args.last_soa.now) (λ soa. Ok (transfer_message c.args.id zone soa)) number c.in_err-last.ensures)) (λ is. refused is))

@@ -3,13 +3,14 @@ use Rattle.std.proofs.lemmas.Result.{err_from_is_err_and}
 use Rattle.op.specs.Fits.{Fits}
 use Rattle.op.specs.Header.{IsHeaderAt}
 use Rattle.op.specs.Message.{message_value}
-use Rattle.capi.proofs.SentLemmas.{all_written, not_fitting, part_written, unsent}
+use Rattle.capi.proofs.AnswerLemmas.{not_fitting}
+use Rattle.capi.proofs.SentLemmas.{all_written, part_written, unsent}
 use Rattle.capi.specs.Update.IsSent.{cut, unfit, whole}
 use Rattle.capi.proofs.update.built.whole_bytes.Goals as goal
 
 pub returns-then-not-fits_wire-clause-sent : goal.returns-then-not-fits_wire-clause-sent
 returns-then-not-fits_wire-clause-sent c =
-    inl (unfit refl (not_fitting (message_value c.args.message.now) c.fits_wire.result c.fits_wire.ensures.fits.1 c.if-not-fits_wire.true))
+    inl (unfit refl (not_fitting (Fits (message_value c.args.message.now)) c.fits_wire.result c.fits_wire.ensures.fits.1 c.if-not-fits_wire.true))
 
 pub returns-in_err-bytes-clause-sent : goal.returns-in_err-bytes-clause-sent
 returns-in_err-bytes-clause-sent c =
