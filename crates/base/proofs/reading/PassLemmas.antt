@@ -67,35 +67,23 @@ same_pointer t u is = cc
 
 after_label : {bytes : List ℕ} {start at e : ℕ} {xs : List (List ℕ)} (n : ℕ) → part_at bytes at ≡ Ok (label_of n) → (h : Spelled bytes xs start at e)
     → Rest bytes start (at + 1 + n) (λ qs. passed h ≡ qs)
-after_label {bytes} {at = at} n is (ends h) = absurd (no_root (sym (part_at-root bytes at h) ∙ is)) where
-  no_root : ◌≡◌ {A = Result NamePart DecodeError} (Ok zero_byte) (Ok (label_of n)) → ⊥
-  no_root same = absurd cc
+after_label {bytes} {at = at} n is (ends h) = absurd (cc (sym (part_at-root bytes at h) ∙ is))
 after_label {bytes} {start} {at} n is (label {e = e} {x = x} {xs = xs} h some small there rest) =
     let len : length x ≡ n = same_label (length x) n (sym (part_at-label bytes at (length x) h some small there.inside) ∙ is) in
     subst (λ (k : ℕ). Rest bytes start (at + 1 + k) (λ qs. passed rest ≡ qs)) len (record { labels = xs; end = e; spelled = rest; passes = refl })
-after_label {bytes} {at = at} n is (pointer {b = b} {c = c} h next high below rest) = absurd (no_pointer (target b c) (sym (part_at-pointer bytes at b c h next high) ∙ is)) where
-  no_pointer : (t : ℕ) → ◌≡◌ {A = Result NamePart DecodeError} (Ok (pointer_to t)) (Ok (label_of n)) → ⊥
-  no_pointer t same = absurd cc
+after_label {bytes} {at = at} n is (pointer {b = b} {c = c} h next high below rest) = absurd (cc (sym (part_at-pointer bytes at b c h next high) ∙ is))
 
 after_pointer : {bytes : List ℕ} {start at e : ℕ} {xs : List (List ℕ)} (t : ℕ) → part_at bytes at ≡ Ok (pointer_to t) → (h : Spelled bytes xs start at e) → Rest bytes t t (λ qs. passed h ≡ t ∷ qs)
-after_pointer {bytes} {at = at} t is (ends h) = absurd (no_root (sym (part_at-root bytes at h) ∙ is)) where
-  no_root : ◌≡◌ {A = Result NamePart DecodeError} (Ok zero_byte) (Ok (pointer_to t)) → ⊥
-  no_root same = absurd cc
-after_pointer {bytes} {at = at} t is (label {x = x} h some small there rest) = absurd (no_label (length x) (sym (part_at-label bytes at (length x) h some small there.inside) ∙ is)) where
-  no_label : (n : ℕ) → ◌≡◌ {A = Result NamePart DecodeError} (Ok (label_of n)) (Ok (pointer_to t)) → ⊥
-  no_label n same = absurd cc
+after_pointer {bytes} {at = at} t is (ends h) = absurd (cc (sym (part_at-root bytes at h) ∙ is))
+after_pointer {bytes} {at = at} t is (label {x = x} h some small there rest) = absurd (cc (sym (part_at-label bytes at (length x) h some small there.inside) ∙ is))
 after_pointer {bytes} {at = at} t is (pointer {b = b} {c = c} {e = e} {xs = xs} h next high below rest) =
     let there : target b c ≡ t = same_pointer (target b c) t (sym (part_at-pointer bytes at b c h next high) ∙ is) in
     subst (λ (u : ℕ). Rest bytes u u (λ qs. ◌≡◌ {A = List ℕ} (target b c ∷ passed rest) (u ∷ qs))) there (record { labels = xs; end = e; spelled = rest; passes = refl })
 
 after_root : {bytes : List ℕ} {start at e : ℕ} {xs : List (List ℕ)} → part_at bytes at ≡ Ok zero_byte → (h : Spelled bytes xs start at e) → passed h ≡ []
 after_root is (ends h) = refl
-after_root {bytes} {at = at} is (label {x = x} h some small there rest) = absurd (no_label (length x) (sym (part_at-label bytes at (length x) h some small there.inside) ∙ is)) where
-  no_label : (n : ℕ) → ◌≡◌ {A = Result NamePart DecodeError} (Ok (label_of n)) (Ok zero_byte) → ⊥
-  no_label n same = absurd cc
-after_root {bytes} {at = at} is (pointer {b = b} {c = c} h next high below rest) = absurd (no_pointer (target b c) (sym (part_at-pointer bytes at b c h next high) ∙ is)) where
-  no_pointer : (t : ℕ) → ◌≡◌ {A = Result NamePart DecodeError} (Ok (pointer_to t)) (Ok zero_byte) → ⊥
-  no_pointer t same = absurd cc
+after_root {bytes} {at = at} is (label {x = x} h some small there rest) = absurd (cc (sym (part_at-label bytes at (length x) h some small there.inside) ∙ is))
+after_root {bytes} {at = at} is (pointer {b = b} {c = c} h next high below rest) = absurd (cc (sym (part_at-pointer bytes at b c h next high) ∙ is))
 
 -- ---- the pointers that are followed from an offset
 

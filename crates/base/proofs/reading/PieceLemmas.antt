@@ -107,11 +107,9 @@ piece_end buffer s {bytes} {piece = of} same p = part_is_there buffer bytes s of
 
 pub piece_fits : {bytes : List ℕ} {before : ℕ} {piece : NamePiece} → IsPiece bytes before piece → piece.len ≤ length bytes
 piece_fits {bytes} {piece = of} p = elim (cases_lt (length bytes) of.len) [
-  | inl past ↦ absurd (no_part (sym (part_at-past bytes of.len (omega (arith, past))) ∙ p.end))
+  | inl past ↦ absurd (cc (sym (part_at-past bytes of.len (omega (arith, past))) ∙ p.end))
   | inr inside ↦ inside
-] where
-  no_part : {part : NamePart} → ◌≡◌ {A = Result NamePart DecodeError} (Err faults.InsufficientBytes) (Ok part) → ⊥
-  no_part same = absurd cc
+]
 
 -- a name is refused where one of its pieces is
 pub piece_refused : {buffer piece : List ℕ} {first before s used : ℕ} {bytes : List ℕ} {end : Option ℕ} {e : DecodeError} → Gathers buffer first before s s used bytes end

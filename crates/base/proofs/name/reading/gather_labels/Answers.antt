@@ -23,20 +23,13 @@ pieces-init c = record {
 pub read_piece-requires : goal.read_piece-requires
 read_piece-requires c = c.pieces.invariant.gathering.gathers.few
 
-pub returns-in_err-piece : goal.returns-in_err-piece
-returns-in_err-piece c =
+pub returns-in_err-piece-clause-read : goal.returns-in_err-piece-clause-read
+returns-in_err-piece-clause-read c =
     let p = err_from_is_err_and c.from_residual.result c.from_residual.ensures.1 in
-    let g = c.pieces.invariant.gathering in
-    rw (p.1, p.2) (record {
-      read = fails_is c.in_err-piece.field-0.0 _ (piece_refused g.gathers c.pieces.invariant.bytes c.in_err-piece.ensures.piece);
-      used = tt;
-      wire = tt;
-      kept = tt;
-      last = tt;
-      followed = followed_so_far g;
-      these = tt;
-      later = tt;
-    })
+    rw (p.1, p.2) (fails_is c.in_err-piece.field-0.0 _ (piece_refused c.pieces.invariant.gathering.gathers c.pieces.invariant.bytes c.in_err-piece.ensures.piece))
+
+pub returns-in_err-piece-clause-followed : goal.returns-in_err-piece-clause-followed
+returns-in_err-piece-clause-followed c = followed_so_far c.pieces.invariant.gathering
 
 pub copy_labels-requires-clause-there : goal.copy_labels-requires-clause-there
 copy_labels-requires-clause-there c = piece_fits c.in_ok-piece.ensures.piece
@@ -64,24 +57,18 @@ returns-in_default c =
     }
 
 -- it ends in a pointer that may not lead there, or leads to too much
-pub returns-in_err-labels : goal.returns-in_err-labels
-returns-in_err-labels c =
+pub returns-in_err-labels-clause-read : goal.returns-in_err-labels-clause-read
+returns-in_err-labels-clause-read c =
     let p = err_from_is_err_and c.from_residual-in_err-labels.result c.from_residual-in_err-labels.ensures.1 in
     let i = c.pieces.invariant in
     let k = c.in_err-labels.ensures in
     let piece = c.in_ok-piece.ensures.piece in
-    let g = gathering_piece i.gathering i.bytes piece c.copy_labels.ensures in
     let part = piece_end c.args.decoder.now.bytes c.pieces.target i.bytes piece ∙ ap (λ q. Ok (ending_of q)) c.in-Some.is in
-    rw (p.1, p.2) (record {
-      read = fails_is c.in_err-labels.field-0.0 _ (gathering_refused g part (λ below. k.refused (omega (arith, below, c.from.ensures))) ∙ ap Err (sym k.err));
-      used = tt;
-      wire = tt;
-      kept = tt;
-      last = tt;
-      followed = followed_so_far i.gathering;
-      these = tt;
-      later = tt;
-    })
+    rw (p.1, p.2) (fails_is c.in_err-labels.field-0.0 _ (gathering_refused (gathering_piece i.gathering i.bytes piece c.copy_labels.ensures) part
+    (λ below. k.refused (omega (arith, below, c.from.ensures))) ∙ ap Err (sym k.err)))
+
+pub returns-in_err-labels-clause-followed : goal.returns-in_err-labels-clause-followed
+returns-in_err-labels-clause-followed c = followed_so_far c.pieces.invariant.gathering
 
 pub returns-in_err-push-clause-followed : goal.returns-in_err-push-clause-followed
 returns-in_err-push-clause-followed c =
