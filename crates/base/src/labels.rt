@@ -82,6 +82,7 @@ impl Labels {
     /// # Errors
     ///
     /// If memory runs out.
+    #[inline(always)]
     pub(crate) fn from_front(
         alloc: Global,
         bytes: &[u8],

@@ -215,6 +215,7 @@ fn gather_labels<'a>(
 
 /// Keeps the labels after the pointers that were followed, the last of them first, so that those after a kept one are
 /// kept at any time.
+#[inline(always)]
 fn keep_targets<'a>(
     decoder: &mut BinDecoder<'a>,
     labels: &[u8],

@@ -152,6 +152,7 @@ impl<'a> BinDecoder<'a> {
     }
 
     /// Keeps the labels at an offset that a pointer led to, which may be in the buffer, or kept for another offset.
+    #[inline(always)]
     pub(crate) fn keep(
         &mut self,
         target: u16,
