@@ -1,5 +1,5 @@
 -- What a run of the program gives.
-use Rattle.std.proofs.Common.{◌≡◌, ◌⊎◌, ℕ, ◌≤◌, List, sym, ◌∙◌, subst, inl, inr, Option, Some, None, Err}
+use Rattle.std.proofs.Common.{◌≡◌, ◌⊎◌, ℕ, List, sym, ◌∙◌, subst, inl, inr, Option, Some, None, Err}
 use Rattle.std.specs.Prelude.{IfSome, ◌≢◌}
 use Rattle.commands.specs.Answer.{Answer, IsShown, IsGivenBy, IsPrinted, broken, refused}
 use Rattle.commands.specs.ApplyCommand.{apply_answer}
@@ -26,10 +26,6 @@ same_command a b words named is = some_once (named ∙ is) where
 each : {X : Type 0} {P Q : X → Type 0} (remaining : Option X) → ((x : X) → P x → Q x) → IfSome remaining P → IfSome remaining Q
 each None then here = tt
 each (Some x) then here = then x here
-
-every : {X : Type 0} {P : X → Type 0} (remaining : Option X) → ((x : X) → P x) → IfSome remaining P
-every None here = tt
-every (Some x) here = here x
 
 module _ (status : ℕ) (old new : Option (List ℕ)) where
   pub given : (answer : Answer) → (status ≡ 3) ⊎ IsPrinted answer status old new → status ≢ broken → IsPrinted answer status old new
