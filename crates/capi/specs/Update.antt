@@ -23,10 +23,9 @@ use Rattle.rr.specs.declared.record.Record.{Record}
 use Rattle.txt.specs.ZoneSets.{ZoneSets}
 use Rattle.parsed_zone.specs.Classes.{are_sets_in}
 use Rattle.parsed_zone.specs.Faults.{numbered}
-use Rattle.parsed_zone.specs.ZoneText.{generic_zone_of_bytes}
 use Rattle.capi.specs.Answer.{Asked, IsAnsweredBy, ◌>>=◌, written}
 use Rattle.capi.specs.Refusals.{not_on_wire, not_one_set, not_soa, other_class, other_type, outside, too_long}
-use Rattle.capi.specs.ZoneText.{characters, zone_name_of}
+use Rattle.capi.specs.ZoneText.{characters, zone_name_of, zone_under}
 use Rattle.capi.specs.declared.update.built.Change.{Change}
 use Rattle.capi.specs.declared.update.built.Change.TheVariants as changes
 
@@ -53,7 +52,7 @@ of_type type = if is_supported_type type then Ok type else Err other_type
 -- the one set of the class IN that zone text has, if its owner lies in the zone
 abbrev pub one_set : NameValue → List ℕ → Asked SetValue
 one_set origin text =
-    generic_zone_of_bytes (Some origin) text >>= λ zone. in_class zone.1 >>= λ sets. only_set sets
+    zone_under (Some origin) text >>= λ zone. in_class zone.1 >>= λ sets. only_set sets
     >>= λ set. within origin set
 
 -- that set, if updates can change its type

@@ -8,7 +8,7 @@ use Rattle.base.specs.NameOf.{name_of}
 use Rattle.rr.specs.Record.{FitsRecord}
 use Rattle.rr.specs.RecordSet.{SetValue}
 use Rattle.txt.specs.ZoneSets.{ZoneSets}
-use Rattle.parsed_zone.specs.Faults.{numbered}
+use Rattle.parsed_zone.specs.Faults.{by_number, numbered}
 use Rattle.parsed_zone.specs.ZoneText.{generic_zone_of_bytes, zone_lines}
 use Rattle.capi.specs.Answer.{Asked, ◌>>=◌}
 use Rattle.capi.specs.Refusals.{no_origin, not_on_wire, not_utf8}
@@ -32,9 +32,13 @@ abbrev pub origin_of_text : List ℕ → Asked (Option NameValue)
 origin_of_text [] = Ok None
 origin_of_text (c ∷ cs) = name_of_text (c ∷ cs) >>= λ name. Ok (Some name)
 
+-- the zone of a text under an origin, if there is one
+abbrev pub zone_under : Option NameValue → List ℕ → Asked (NameValue × ZoneSets)
+zone_under origin text = by_number (generic_zone_of_bytes origin text)
+
 -- the zone of a text under the origin that a text names, if it does
 abbrev pub zone_of_text : List ℕ → List ℕ → Asked (NameValue × ZoneSets)
-zone_of_text origin text = origin_of_text origin >>= λ under. generic_zone_of_bytes under text
+zone_of_text origin text = origin_of_text origin >>= λ under. zone_under under text
 
 -- Each record of the sets can stand on the wire, so each name of its data is absolute (RFC 1035, 3.1 and 3.2.1).
 abbrev pub FitsWire : ZoneSets → Type 0

@@ -11,10 +11,10 @@ use crate::answer::give;
 use crate::fits::fits_wire;
 use crate::message::message_of;
 use crate::refusal::Refusal;
-use crate::zone::zone_name_of;
+use crate::zone::{zone_name_of, zone_under};
 use base::{Name, RrKey};
 use op::Message;
-use parsed_zone::{generic_zone_of_bytes, lines_after};
+use parsed_zone::lines_after;
 use rr::RecordSet;
 use std::alloc::Global;
 use std::collections::BTreeMap;
@@ -68,6 +68,6 @@ fn update_and_zone(
 {
     let message = message_of(alloc, update)?;
     let zone = zone_name_of(alloc, origin)?;
-    let (_origin, sets) = generic_zone_of_bytes(alloc, Some(zone.clone()?), text)?;
+    let (_origin, sets) = zone_under(alloc, Some(zone.clone()?), text)?;
     Ok((message, zone, sets))
 }

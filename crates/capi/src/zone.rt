@@ -3,7 +3,7 @@
 ghost use Rattle.std.specs.Prelude.{◌≡◌, IfOk};
 ghost use Rattle.txt.specs.ZoneSets.{AreKeyed};
 ghost use Rattle.capi.specs.Answer.{IsAnsweredBy, Makes, MakesBy};
-ghost use Rattle.capi.specs.ZoneText.{IsCanonical, characters, name_of_text, origin_of_text, zone_name_of, zone_of_text};
+ghost use Rattle.capi.specs.ZoneText.{IsCanonical, characters, name_of_text, origin_of_text, zone_name_of, zone_of_text, zone_under};
 
 use crate::answer::give;
 use crate::fits::fits_wire;
@@ -63,6 +63,23 @@ pub fn zone_of(
     ensures kept { IfOk result (λ r. AreKeyed r.1.entries) }
 {
     let origin = origin_of(alloc, origin)?;
+    zone_under(alloc, origin, text)
+}
+
+/// The zone of a text under an origin, if there is one.
+///
+/// # Errors
+///
+/// 24 for a text that isn't UTF-8, and the number of what the parser refuses.
+pub fn zone_under(
+    alloc: Global,
+    origin: Option<Name>,
+    text: &[u8],
+) -> Result<(Name, BTreeMap<RrKey, RecordSet>), Refusal>
+    ensures zone { Makes (λ r. (r.0, r.1.entries)) (zone_under origin text.now) result }
+    // Each set stands under the key of its owner and type, has a record and is tidy.
+    ensures kept { IfOk result (λ r. AreKeyed r.1.entries) }
+{
     Ok(generic_zone_of_bytes(alloc, origin, text)?)
 }
 

@@ -11,6 +11,7 @@ use Rattle.base.specs.Labels.{NameValue}
 use Rattle.txt.specs.Steps.{texts_in}
 use Rattle.txt.specs.Zone.{Texts}
 use Rattle.txt.specs.ZoneSets.{ZoneSets}
+use Rattle.parsed_zone.specs.Faults.{ZoneFault, by_number}
 use Rattle.parsed_zone.specs.ZoneText.{zone_of_bytes}
 use Rattle.commands.specs.Answer.{refused}
 use Rattle.commands.specs.ZoneCommand.{answer_to_zone, is_equals, or_else, text_in, text_named, zone_answer}
@@ -63,12 +64,15 @@ text_put {word = word} old new words before put more name =
 module _ (origin : Option NameValue) (words : List (List ℕ)) (input : List ℕ) (includes : BTreeMap (String Global) (String Global))
     (named : (name : List ℕ) → texts_in includes name ≡ text_named words name) where
   -- the answer is that of the zone that was read with these texts
-  pub zone_answers : (made : Result (NameValue × ZoneSets) ℕ) → zone_of_bytes (texts_in includes) origin input ≡ made → zone_answer origin words input ≡ answer_to_zone made
+  pub zone_answers : (made : Result (NameValue × ZoneSets) ZoneFault) → zone_of_bytes (texts_in includes) origin input ≡ made
+      → zone_answer origin words input ≡ answer_to_zone (by_number made)
   unfolding zone_answer
-  zone_answers made is = ap answer_to_zone (ap (λ (texts : Texts). zone_of_bytes texts origin input) (λ i name. sym (named name) i) ∙ is)
+  zone_answers made is =
+      ap (λ (found : Result (NameValue × ZoneSets) ZoneFault). answer_to_zone (by_number found))
+      (ap (λ (texts : Texts). zone_of_bytes texts origin input) (λ i name. sym (named name) i) ∙ is)
 
   -- and has the number of its refusal
-  pub zone_refused : (number : ℕ) → (number ≡ 3) ⊎ (zone_of_bytes (texts_in includes) origin input ≡ Err number)
+  pub zone_refused : (number : ℕ) → (number ≡ 3) ⊎ (by_number (zone_of_bytes (texts_in includes) origin input) ≡ Err number)
       → (number ≡ 3) ⊎ (zone_answer origin words input ≡ refused number)
   zone_refused number (inl memory) = inl memory
-  zone_refused number (inr is) = inr (zone_answers (Err number) is)
+  zone_refused number (inr is) = inr (zone_answers (zone_of_bytes (texts_in includes) origin input) refl ∙ ap answer_to_zone is)

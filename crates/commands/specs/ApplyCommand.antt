@@ -8,6 +8,7 @@ use Rattle.op.specs.Message.{MessageValue, message_at}
 use Rattle.op_use.specs.Server.{sections_of}
 use Rattle.txt.specs.ZoneSets.{ZoneSets}
 use Rattle.parsed_zone.specs.Applied.{lines_after}
+use Rattle.parsed_zone.specs.Faults.{by_number}
 use Rattle.parsed_zone.specs.ZoneText.{zone_of_bytes}
 use Rattle.txt.specs.Zone.{no_texts}
 use Rattle.commands.specs.Answer.{Answer, answer_of, refused}
@@ -15,13 +16,13 @@ use Rattle.commands.specs.HexInput.{bytes_of}
 
 -- the answer to a message that is applied to a zone that was read, or the number of the refusal
 abbrev pub answer_to_parsed : MessageValue → Result (NameValue × ZoneSets) ℕ → Answer
-answer_to_parsed m (Ok zone) = answer_of (lines_after (sections_of m) zone)
+answer_to_parsed m (Ok zone) = answer_of (by_number (lines_after (sections_of m) zone))
 answer_to_parsed m (Err number) = refused number
 
 -- the answer to zone text under an origin, without texts to include; refusal 24 where it isn't UTF-8, 25 for another
 -- class than IN
 abbrev pub answer_to_text : MessageValue → Option NameValue → List ℕ → Answer
-answer_to_text m origin input = answer_to_parsed m (zone_of_bytes no_texts origin input)
+answer_to_text m origin input = answer_to_parsed m (by_number (zone_of_bytes no_texts origin input))
 
 -- the message that was read, or the number of the fault that reading met
 abbrev pub message_read : Read MessageValue → Result MessageValue ℕ

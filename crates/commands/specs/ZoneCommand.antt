@@ -5,6 +5,7 @@ use Rattle.std.specs.Str.{bytes_eq}
 use Rattle.base.specs.Labels.{NameValue}
 use Rattle.txt.specs.Zone.{Texts}
 use Rattle.txt.specs.ZoneSets.{ZoneSets}
+use Rattle.parsed_zone.specs.Faults.{by_number}
 use Rattle.parsed_zone.specs.ZoneText.{zone_lines, zone_of_bytes}
 use Rattle.commands.specs.Answer.{Answer, done, refused}
 
@@ -42,4 +43,5 @@ answer_to_zone (Err number) = refused number
 
 -- the answer to a text under an origin, with the texts that these words hand in; refusal 24 where it isn't UTF-8
 unfoldable pub zone_answer : Option NameValue → List (List ℕ) → List ℕ → Answer
-zone_answer origin words input = answer_to_zone (zone_of_bytes (text_named words) origin input)
+zone_answer origin words input =
+    answer_to_zone (by_number (zone_of_bytes (text_named words) origin input))

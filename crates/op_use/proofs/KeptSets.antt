@@ -4,7 +4,7 @@ use Rattle.base.specs.RrKey.{key_cmp}
 use Rattle.base.specs.declared.dns_class.DNSClass.{DNSClass}
 use Rattle.base.specs.declared.rr_key.RrKey.{RrKey}
 use Rattle.base_data.specs.declared.rdata.RData.{RData}
-use Rattle.op_use.proofs.MapSteps.{injected, taken_more}
+use Rattle.op_use.proofs.MapSteps.{taken_more}
 use Rattle.op_use.proofs.MapZones.{get_zone}
 use Rattle.op_use.proofs.ZoneSteps.{same_key, same_sets}
 use Rattle.op_use.specs.Applying.{IsZoneMap, IsZoneSet, KeepsSame, data_in_set, records_at, records_in, zone_of_map}
@@ -21,6 +21,7 @@ use Rattle.rr.specs.declared.record.Record.{Record}
 use Rattle.std.proofs.Common.{ap, inl, inr, refl, subst, sym, ◌∙◌, ◌⊎◌}
 use Rattle.std.proofs.lemmas.List.Folds.{list_any-append}
 use Rattle.std.proofs.Math.Bool.{or-false}
+use Rattle.std.proofs.lemmas.Option.{same_Some}
 use Rattle.std.specs.BTreeMap as tree
 use Rattle.std.specs.BTreeMap.{BTreeMap}
 use Rattle.std.specs.FinMap.{FinMap}
@@ -225,7 +226,7 @@ module _ (es : List (Record RData)) (i : ℕ) (r : Record RData) (k : RrKey) (be
 -- a set that is put back
 put_at : (class : DNSClass) (k : RrKey) (s : SetValue) (m : BTreeMap RrKey SetValue) (b : Bool) (q : RrKey) (t : SetValue) → IsZoneMap class m → IsZoneSet class k s
     → eq_by_cmp key_cmp k q ≡ b → cond b (Some s) (tree.get key_cmp m q) ≡ Some t → IsZoneSet class q t
-put_at class k s m true q t old h e f = subst (λ p. IsZoneSet class p t) (same_key k q e) (subst (λ x. IsZoneSet class k x) (injected s t f) h)
+put_at class k s m true q t old h e f = subst (λ p. IsZoneSet class p t) (same_key k q e) (subst (λ x. IsZoneSet class k x) (same_Some s t f) h)
 put_at class k s m false q t old h e f = old q t f
 
 pub put_map : (class : DNSClass) (k : RrKey) (s : SetValue) (m n : BTreeMap RrKey SetValue) → IsZoneMap class m → IsZoneSet class k s → tree.Updates key_cmp m n k (Some s) → IsZoneMap class n

@@ -17,7 +17,7 @@ use Rattle.op_use.specs.Applying.{IsZoneMap}
 use Rattle.rr.specs.RecordSet.{SetValue}
 use Rattle.txt.specs.ZoneSets.{AreKeyed, IsKeyed, ZoneSets}
 use Rattle.parsed_zone.specs.Classes.{are_sets_in, is_in, is_set_in}
-use Rattle.parsed_zone.specs.ParsedZone.{AreOfClass}
+use Rattle.parsed_zone.specs.ParsedZone.{AreOfClass, MayBeUpdated}
 
 in_only : (c : DNSClass) → is_in c ≡ true → c ≡ classes.IN
 in_only classes.IN h = refl
@@ -53,5 +53,5 @@ sets_in (e ∷ es) h =
     let parts = and_parts (is_set_in e.1) (are_sets_in es) h in
     (in_only e.1.dns_class ((and_parts (is_in e.1.dns_class) _ parts.0).0), sets_in es parts.1)
 
-pub parsed_map : (m : BTreeMap RrKey SetValue) → AreKeyed m.entries → are_sets_in m.entries ≡ true → IsZoneMap classes.IN m
+pub parsed_map : (m : BTreeMap RrKey SetValue) → AreKeyed m.entries → MayBeUpdated m
 parsed_map m kept all = zone_map classes.IN m kept (λ k s h. found (λ q v. v.dns_class ≡ classes.IN) k m.entries (sets_in m.entries all) s h)

@@ -13,6 +13,7 @@ use Rattle.op_use.specs.Server.{Sections}
 use Rattle.op_use.specs.Zone.{Zone}
 use Rattle.txt.specs.ZoneSets.{ZoneSets, set_at}
 use Rattle.parsed_zone.specs.Classes.{are_sets_in}
+use Rattle.parsed_zone.specs.Faults.{ZoneFault, other_class}
 use Rattle.parsed_zone.specs.ZoneText.{origin_line, zone_lines}
 
 -- the name of a code, and nothing for one without a name, which no update is answered with
@@ -40,6 +41,6 @@ applied_lines m zone =
     line (code_word (code_name outcome.0))
     ++ (origin_line zone.0 ++ flat_map (lines_under m zone) (fin.keys outcome.1.sets))
 
--- the lines of what an update makes of a zone; 25 for another class than IN
-abbrev pub lines_after : Sections → NameValue × ZoneSets → Result (List ℕ) ℕ
-lines_after m zone = if are_sets_in zone.1 then Ok (applied_lines m zone) else Err 25
+-- the lines of what an update makes of a zone of the class IN
+abbrev pub lines_after : Sections → NameValue × ZoneSets → Result (List ℕ) ZoneFault
+lines_after m zone = if are_sets_in zone.1 then Ok (applied_lines m zone) else Err other_class

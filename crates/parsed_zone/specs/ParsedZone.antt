@@ -1,13 +1,15 @@
 -- That updates may be applied to a parsed zone.
 use Rattle.std.specs.BTreeMap as tree
 use Rattle.std.specs.BTreeMap.{BTreeMap}
-use Rattle.std.specs.Prelude.{Some, ◌≡◌}
+use Rattle.std.specs.Prelude.{Some, true, ◌≡◌}
 use Rattle.base.specs.RrKey.{key_cmp}
+use Rattle.base.specs.declared.dns_class.DNSClass.TheVariants as classes
 use Rattle.base.specs.declared.dns_class.DNSClass.{DNSClass}
 use Rattle.base.specs.declared.rr_key.RrKey.{RrKey}
 use Rattle.op_use.specs.Applying.{IsZoneMap}
 use Rattle.rr.specs.RecordSet.{SetValue}
 use Rattle.txt.specs.ZoneSets.{AreKeyed}
+use Rattle.parsed_zone.specs.Classes.{are_sets_in}
 
 -- each set of a map is of a class
 abbrev pub AreOfClass : DNSClass → BTreeMap RrKey SetValue → Type 0
@@ -18,3 +20,7 @@ AreOfClass class m = (k : RrKey) (s : SetValue) → tree.get key_cmp m k ≡ Som
 abbrev pub ParsedZonesMayBeUpdated : Type 0
 ParsedZonesMayBeUpdated = (class : DNSClass) (m : BTreeMap RrKey SetValue) → AreKeyed m.entries
     → AreOfClass class m → IsZoneMap class m
+
+-- The sets are such as updates may be applied to, where all are of the class IN.
+abbrev pub MayBeUpdated : BTreeMap RrKey SetValue → Type 0
+MayBeUpdated m = are_sets_in m.entries ≡ true → IsZoneMap classes.IN m

@@ -10,19 +10,21 @@ use Rattle.op.specs.MessageText.{line, record_lines}
 use Rattle.rr.specs.RecordSet.{SetValue}
 use Rattle.txt.specs.Zone.{Texts, generic_zone_of, no_texts, zone_of}
 use Rattle.txt.specs.ZoneSets.{ZoneSets}
-use Rattle.parsed_zone.specs.Faults.{numbered}
+use Rattle.parsed_zone.specs.Faults.{ZoneFault, not_utf8, of_text}
 
--- the zone of a text that bytes are, or the number of its fault; 24 where they aren't UTF-8
+-- the zone of a text that bytes are, or its fault
 abbrev pub read_as_text : List ℕ → Result (NameValue × ZoneSets) Fault
-    → Result (NameValue × ZoneSets) ℕ
-read_as_text bytes zone = if is_utf8 bytes then numbered zone else Err 24
+    → Result (NameValue × ZoneSets) ZoneFault
+read_as_text bytes zone = if is_utf8 bytes then of_text zone else Err not_utf8
 
 -- the zone of the text that bytes are, under an origin, if there is one
-abbrev pub zone_of_bytes : Texts → Option NameValue → List ℕ → Result (NameValue × ZoneSets) ℕ
+abbrev pub zone_of_bytes : Texts → Option NameValue → List ℕ
+    → Result (NameValue × ZoneSets) ZoneFault
 zone_of_bytes texts origin bytes = read_as_text bytes (zone_of texts origin bytes)
 
 -- the same of a text in which types and data may stand in the generic form (RFC 3597, 5), and which includes none
-abbrev pub generic_zone_of_bytes : Option NameValue → List ℕ → Result (NameValue × ZoneSets) ℕ
+abbrev pub generic_zone_of_bytes : Option NameValue → List ℕ
+    → Result (NameValue × ZoneSets) ZoneFault
 generic_zone_of_bytes origin bytes = read_as_text bytes (generic_zone_of no_texts origin bytes)
 
 -- the records of all sets, in the order of their keys, a line each

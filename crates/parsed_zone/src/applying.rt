@@ -6,9 +6,9 @@ ghost use Rattle.std.specs.String.{string_bytes};
 ghost use Rattle.base.specs.RrKey.{key_cmp};
 ghost use Rattle.op.specs.Message.{message_value};
 ghost use Rattle.op_use.specs.Server.{sections_of};
-ghost use Rattle.txt.specs.ZoneSets.{AreKeyed};
 ghost use Rattle.parsed_zone.specs.Applied.{lines_after, update_lines};
 ghost use Rattle.parsed_zone.specs.Faults.{MakesOrRefuses};
+ghost use Rattle.parsed_zone.specs.ParsedZone.{MayBeUpdated};
 
 use crate::classes::are_sets_in;
 use crate::refusal::ZoneRefusal;
@@ -23,7 +23,7 @@ use std::collections::BTreeMap;
 /// The name of the code that a server answers an update with, on a line, and the lines of the zone then (RFC 2136, 3).
 /// With any code but NoError the zone is as it was.
 ///
-/// The sets are such as `zone_of_bytes` answers.
+/// The sets are such as `zone_of_bytes` or an earlier update made them.
 ///
 /// # Errors
 ///
@@ -34,7 +34,7 @@ pub fn lines_after(
     name: &Name,
     sets: &BTreeMap<RrKey, RecordSet>,
 ) -> Result<String, ZoneRefusal>
-    requires { AreKeyed sets.now.entries }
+    requires { MayBeUpdated sets.now }
     ensures { MakesOrRefuses string_bytes
         (lines_after (sections_of (message_value message.now)) (name.now, sets.now.entries))
         result }

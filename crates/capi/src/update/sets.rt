@@ -9,11 +9,11 @@ ghost use Rattle.capi.specs.Answer.{Makes};
 ghost use Rattle.capi.specs.Update.{of_type, one_set, only_set, owner_of_text, set_of_text, soa_in_data, soa_of_text, within};
 
 use crate::refusal::Refusal;
-use crate::zone::characters_of;
+use crate::zone::{characters_of, zone_under};
 use base::{Name, RecordType, RrKey};
 use base_data::{RData, SOA};
 use op_use::is_supported_type;
-use parsed_zone::{are_sets_in, generic_zone_of_bytes};
+use parsed_zone::are_sets_in;
 use rr::RecordSet;
 use std::alloc::Global;
 use std::collections::BTreeMap;
@@ -37,7 +37,7 @@ fn one_set(alloc: Global, origin: &Name, text: &[u8]) -> Result<RecordSet, Refus
     ensures within { IfOk result (λ set. is_zone_of origin.now set.name ≡ true) }
     ensures sound { IfOk result (λ set. IsSound set) }
 {
-    let (_origin, sets) = generic_zone_of_bytes(alloc, Some(origin.clone()?), text)?;
+    let (_origin, sets) = zone_under(alloc, Some(origin.clone()?), text)?;
     if !are_sets_in(&sets) {
         return Err(Refusal::CLASS);
     }

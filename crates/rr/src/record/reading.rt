@@ -37,8 +37,8 @@ impl BinDecodable for Record<RData> {
 }
 
 impl Record<RData> {
-    /// Reads a record at the decoder's place as `read` does, but in the place of one without data, since it is faster not
-    /// to move what was read. Answers its type, and the place after its owner, where the type stands.
+    /// Reads a record at the decoder's place as `read` does, but in the place of an empty record of the root, since it
+    /// is faster not to move what was read. Answers its type, and the place after its owner, where the type stands.
     ///
     /// # Errors
     ///
@@ -48,6 +48,7 @@ impl Record<RData> {
         &mut self,
         decoder: &mut BinDecoder<'_>,
     ) -> Result<(RecordType, usize), DecodeError>
+        requires root { self.old.name.labels ≡ [] }
         requires empty { is_empty_data self.old.rdata ≡ true }
         ensures read { Reads (λ _. self.new) decoder.old decoder.new result
             (record_at decoder.old.bytes decoder.old.index) }
@@ -58,7 +59,9 @@ impl Record<RData> {
         ensures tracks { Tracks (λ _. record_places decoder.old.bytes decoder.old.index)
             decoder.old decoder.new result }
     {
-        self.name = Name::read(decoder)?;
+        let owner = Name::read(decoder)?;
+        // What was there takes no memory, and a test of that would cost time.
+        mem::forget(mem::replace(&mut self.name, owner));
         let type_place = decoder.index();
         let record_type = RecordType::read(decoder)?;
         if is_opt(record_type) && !self.name.is_root() {

@@ -2,11 +2,10 @@ use Rattle.std.proofs.Common.{sym, ◌∙◌}
 use Rattle.op.specs.Message.{message_value}
 use Rattle.op_use.specs.Server.{sections_of}
 use Rattle.parsed_zone.proofs.AppliedLines.{lines_answered}
-use Rattle.parsed_zone.proofs.ZoneMaps.{parsed_map}
 use Rattle.parsed_zone.proofs.applying.lines_after.Goals as goal
 
 pub apply_update-requires : goal.apply_update-requires
-apply_update-requires c = parsed_map c.args.sets.now c.requires (sym c.are_sets_in.ensures ∙ c.if-not-are_sets_in.false)
+apply_update-requires c = c.requires (sym c.are_sets_in.ensures ∙ c.if-not-are_sets_in.false)
 
 pub returns : goal.returns
 returns c =

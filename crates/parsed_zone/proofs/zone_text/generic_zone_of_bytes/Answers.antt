@@ -1,20 +1,21 @@
-use Rattle.std.proofs.Common.{Ok, inr, subst, true, ◌≡◌, ◌⊎◌}
+use Rattle.std.proofs.Common.{Ok, subst, true, ◌≡◌}
 use Rattle.std.proofs.lemmas.Result.{err_from_is_err_and}
-use Rattle.base.specs.ParseError.{parse_number}
-use Rattle.std.specs.Prelude.{Err}
+use Rattle.std.specs.Prelude.{option_map}
+use Rattle.base.specs.TextFaults.{fault_of}
 use Rattle.txt.specs.Zone.{Texts, zone_by}
 use Rattle.parsed_zone.proofs.TextLemmas.{none_in, not_text, zone_read, zone_refused}
+use Rattle.parsed_zone.specs.Faults.{HasFault, in_text}
 use Rattle.parsed_zone.specs.ZoneText.{read_as_text}
 use Rattle.parsed_zone.proofs.zone_text.generic_zone_of_bytes.Goals as goal
 
 pub returns-in_default-clause-zone : goal.returns-in_default-clause-zone
-returns-in_default-clause-zone c = inr (not_text _ c.args.bytes.now c.in_default.ensures.cases.0)
+returns-in_default-clause-zone c = not_text _ c.args.bytes.now c.in_default.ensures.cases.0
 
 pub returns-in_err-parse_generic-clause-zone : goal.returns-in_err-parse_generic-clause-zone
 returns-in_err-parse_generic-clause-zone c =
     let p = err_from_is_err_and c.from_residual.result c.from_residual.ensures.1 in
     let e = c.in_err-parse_generic.field-0.0 in
-    rw (p.1, p.2) (subst (λ (texts : Texts). (parse_number e ≡ 3) ⊎ (read_as_text c.args.bytes.now (zone_by true texts c.args.origin c.args.bytes.now) ≡ Err (parse_number e)))
+    rw (p.1, p.2) (subst (λ (texts : Texts). HasFault (option_map in_text (fault_of e)) (read_as_text c.args.bytes.now (zone_by true texts c.args.origin c.args.bytes.now)))
     (none_in c.new-none.result c.new-none.ensures.empty)
     (zone_refused true c.args.origin c.args.bytes.now c.in-Ok.text.now c.new-none.result c.new.result c.in-Ok.ensures.cases.1 c.in-Ok.ensures.cases.0 c.new.ensures
     e c.in_err-parse_generic.ensures.zone))

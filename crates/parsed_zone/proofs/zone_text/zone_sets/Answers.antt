@@ -1,10 +1,10 @@
-use Rattle.std.proofs.Common.{Ok, false, inr}
+use Rattle.std.proofs.Common.{Ok, false}
 use Rattle.std.proofs.lemmas.Result.{err_from_is_err_and}
 use Rattle.parsed_zone.proofs.TextLemmas.{not_text, zone_read, zone_refused}
 use Rattle.parsed_zone.proofs.zone_text.zone_sets.Goals as goal
 
 pub returns-in_default : goal.returns-in_default
-returns-in_default c = inr (not_text _ c.args.bytes.now c.in_default.ensures.cases.0)
+returns-in_default c = not_text _ c.args.bytes.now c.in_default.ensures.cases.0
 
 pub returns-in_err-parse_sets : goal.returns-in_err-parse_sets
 returns-in_err-parse_sets c =
