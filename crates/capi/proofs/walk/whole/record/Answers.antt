@@ -28,6 +28,6 @@ returns c =
     c.read_slice.new.self c.in_ok-_before._before.now c.new-fields.ensures c.requires c.index-place.ensures.value refl near
     c.in_ok-_before.ensures.read) ∙ c.in_ok-found.ensures in (
       record_passed at.bytes at.index inside c.args.section (now.self, now.decoder.index) type_place c.in_ok-found.found
-      read.read.0 read.owner fields,
+          read.read.0 read.owner fields,
       read.read.1,
     )
