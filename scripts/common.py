@@ -8,6 +8,9 @@ import sys
 ROOT = os.path.dirname(os.path.dirname(os.path.realpath(__file__)))
 PROGRAM = os.path.join(ROOT, "crates", "dnsmsg", "out", "dnsmsg")
 
+# The toolchain's folder.
+KIT = os.path.dirname(os.path.dirname(os.path.realpath(shutil.which("rt") or "rt/rt")))
+
 # The status where something that a script wants is missing, as of `./dnsmsg`.
 MISSING = 69
 
@@ -52,3 +55,22 @@ def need_program(path):
     if not os.access(path, os.X_OK):
         missing(f"there is no program {os.path.relpath(path)}: build it, as by ./dnsmsg")
     return os.path.abspath(path)
+
+
+def link_kit(kit, others):
+    """A copy of the toolchain, by links and with its command as it stands, in which the files at these paths are left out,
+    so that others can stand there."""
+    def fill(folder):
+        os.makedirs(os.path.join(kit, folder))
+        for name in os.listdir(os.path.join(KIT, folder)):
+            path = os.path.join(folder, name)
+            if path in others:
+                continue
+            if path == "bin" or any(other.startswith(f"{path}/") for other in others):
+                fill(path)
+            elif path in ("bin/rt", "bin/rtlib.py"):
+                shutil.copy(os.path.join(KIT, path), os.path.join(kit, path))
+            else:
+                os.symlink(os.path.join(KIT, path), os.path.join(kit, path))
+
+    fill("")
