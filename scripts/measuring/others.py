@@ -16,13 +16,23 @@ def left_out(what, package):
 
 
 def build_trust_dns(folder):
-    """The program over trust-dns-proto 0.22, as Debian has it, built by cargo as it builds a release; or nothing."""
+    """The program over trust-dns-proto 0.22, as Debian has it, built by cargo as its users build a release at its best,
+    with LTO and in one unit; or nothing."""
     if not (shutil.which("cargo") and glob.glob(f"{REGISTRY}/trust-dns-proto-0.22.*")):
         left_out("trust-dns-proto", "cargo and Debian's librust-trust-dns-proto-dev")
         return None
     copy = shutil.copytree(f"{SOURCES}/trust_dns", f"{folder}/trust_dns")
     run_or_end(["cargo", "build", "--release", "--offline", "--target-dir", f"{copy}/target", *SOURCE], copy)
     return f"{copy}/target/release/trust_dns"
+
+
+def build_limit(folder):
+    """The program that does the least that reading and writing a message take; or nothing."""
+    if not shutil.which("cc"):
+        left_out("the limit", "a C compiler")
+        return None
+    run_or_end(["cc", "-O2", "-o", f"{folder}/limit", f"{SOURCES}/limit.c"], folder)
+    return f"{folder}/limit"
 
 
 def build_ldns(folder):
