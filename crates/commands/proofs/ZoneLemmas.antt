@@ -8,7 +8,7 @@ use Rattle.std.specs.Str.{bytes_eq}
 use Rattle.std.specs.String.{string_bytes}
 use Rattle.std.specs.declared.alloc.Global.{Global}
 use Rattle.base.specs.Labels.{NameValue}
-use Rattle.txt.specs.Steps.{texts_in}
+use Rattle.txt.specs.Parser.{texts_in}
 use Rattle.txt.specs.Zone.{Texts}
 use Rattle.txt.specs.ZoneSets.{ZoneSets}
 use Rattle.parsed_zone.specs.Faults.{ZoneFault, by_number}

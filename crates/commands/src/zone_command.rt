@@ -3,7 +3,7 @@
 ghost use Rattle.std.specs.Prelude.{◌≡◌, ℕ, IfOk, List};
 ghost use Rattle.std.specs.List.{after_first, before_first};
 ghost use Rattle.std.specs.String.{string_bytes};
-ghost use Rattle.txt.specs.Steps.{texts_in};
+ghost use Rattle.txt.specs.Parser.{texts_in};
 ghost use Rattle.commands.specs.Answering.{Answers};
 ghost use Rattle.commands.specs.Words.{as_bytes};
 ghost use Rattle.commands.specs.ZoneCommand.{is_equals, text_named, zone_answer};

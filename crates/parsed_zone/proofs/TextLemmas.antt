@@ -14,8 +14,7 @@ use Rattle.base.specs.declared.error.parse_error.ParseError.TheVariants as fault
 use Rattle.parsed_zone.specs.declared.refusal.ZoneRefusal.{ZoneRefusal}
 use Rattle.parsed_zone.specs.declared.refusal.ZoneRefusal.TheVariants as refusals
 use Rattle.txt.proofs.TextsLemmas.{texts_are}
-use Rattle.txt.specs.Parser.{ParserValue, named_texts, text_among}
-use Rattle.txt.specs.Steps.{texts_in}
+use Rattle.txt.specs.Parser.{ParserValue, named_texts, text_among, texts_in}
 use Rattle.txt.specs.Zone.{Texts, no_texts, zone_by}
 use Rattle.txt.specs.ZoneSets.{ZoneSets}
 use Rattle.parsed_zone.specs.Faults.{HasFault, ZoneFault, fault_named, in_text, by_number, not_utf8, of_text, zone_number}

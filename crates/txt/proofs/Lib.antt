@@ -1,7 +1,7 @@
 pub mod Gathering
 pub mod BlockLemmas
+pub mod Cuts
 pub mod KeptSets
 pub mod SetsInOrder
 pub mod Stack
-pub mod Taking
 pub mod TextsLemmas

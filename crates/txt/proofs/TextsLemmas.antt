@@ -11,8 +11,7 @@ use Rattle.base.proofs.Refusing.{Fails-through}
 use Rattle.base.specs.Labels.{NameValue}
 use Rattle.base.specs.TextFaults.{FailsWith, Gives}
 use Rattle.base.specs.declared.error.parse_error.ParseError.{ParseError}
-use Rattle.txt.specs.Parser.{ParserValue, named_texts, text_among}
-use Rattle.txt.specs.Steps.{texts_in}
+use Rattle.txt.specs.Parser.{ParserValue, named_texts, text_among, texts_in}
 use Rattle.txt.specs.Zone.{ZoneState, Texts, parsed_of, answered, beginning, folded_text, zone_by}
 use Rattle.txt.specs.ZoneSets.{ZoneSets}
 

@@ -1,8 +1,8 @@
 -- The entries of a text (RFC 1035, 5.1).
-use Rattle.std.specs.Prelude.{ℕ, Option, Some, None, List, [], ◌∷◌, ◌++◌, length, codes}
+use Rattle.std.specs.Prelude.{ℕ, Option, Some, None, List, [], ◌∷◌, ◌++◌, length}
 use Rattle.std.specs.Str.{str_to_ascii_uppercase}
 use Rattle.base.specs.DNSClass.{class_from_text}
-use Rattle.base.specs.TextFaults.{Fault, lexer, says, unexpected}
+use Rattle.base.specs.TextFaults.{Fault, lexer, unexpected}
 use Rattle.base.specs.TokenList.{Symbol, broken, listing, symbol, symbols}
 use Rattle.base.specs.Tokens.{Unread, at, blank, char_data, eol, include, list, origin_sign, ttl_sign}
 use Rattle.base.specs.Ttl.{ttl_of}
@@ -13,10 +13,10 @@ abbrev pub fault_at : Symbol → Fault
 fault_at (symbol value) = unexpected value
 fault_at broken = lexer
 
--- how an entry ends: as it may, or by a token that has no place there
+-- how an entry ends: as it may, or by a token that has no place there, after which nothing is read
 pub data Stop : Type 0 where
   whole : Stop
-  refused : Fault → Stop
+  refused : Symbol → Stop
 
 -- whose a line is: the name that a text names, the origin by @, or by a blank the last stated owner (RFC 1035, 5.1)
 pub data Owner : Type 0 where
@@ -40,95 +40,98 @@ setting_by None None = None
 unfoldable pub setting_of : List ℕ → Option Setting
 setting_of word = setting_by (ttl_of word) (class_from_text (str_to_ascii_uppercase word))
 
--- what stands after the settings of a line: nothing, or a type's text with the items of its data
+-- what a line states before its type: a TTL and a class, each by the last item that states one
+pub record Settings : Type 0 where
+  pub ttl : Option ℕ
+  pub dns_class : Option DNSClass
+
+-- a line that states nothing
+abbrev pub no_settings : Settings
+no_settings = record { ttl = None; dns_class = None }
+
+-- one more setting
+abbrev pub with_setting : Settings → Setting → Settings
+with_setting settings (ttl_is ttl) = record settings { ttl = Some ttl }
+with_setting settings (class_is class) = record settings { dns_class = Some class }
+
+-- what stands after the settings of a line: nothing, or a type's text, its letters raised, with the items of its data
 pub data Body : Type 0 where
   untyped : Stop → Body
   typed : List ℕ → List (List ℕ) → Stop → Body
 
 -- An entry (RFC 1035, 5.1), as far as it stands in the text: the end of a line; $ORIGIN and a name; $TTL and a TTL
--- (RFC 2308, 4); $INCLUDE and a name; a record's line; or one that ends with a token that has no place in it.
+-- (RFC 2308, 4); $INCLUDE and a name, or two names; a record's line; or a token that ends another entry than a line and
+-- has no place in it.
 pub data Entry : Type 0 where
   nothing : Entry
   origin_entry : List ℕ → Entry
   ttl_entry : List ℕ → Entry
   include_entry : List ℕ → Entry
-  owner_line : Owner → List Setting → Body → Entry
-  faulty_entry : Fault → Entry
+  include_under : Entry
+  owner_line : Owner → Settings → Body → Entry
+  faulty_entry : Symbol → Entry
 
--- the items that stand first, and what stands after them
-abbrev pub first_items : List Symbol → List (List ℕ) × List Symbol
-first_items [] = ([], [])
-first_items (symbol (char_data word) ∷ rest) = (word ∷ (first_items rest).0, (first_items rest).1)
-first_items (symbol (list words) ∷ rest) = (words ++ (first_items rest).0, (first_items rest).1)
-first_items (other ∷ rest) = ([], other ∷ rest)
+-- after so many items of the data: all of them, how they end, and where the next entry begins
+abbrev pub items_after : List Symbol → List (List ℕ) → (List (List ℕ) × Stop) × List Symbol
+items_after [] items = ((items, whole), [])
+items_after (symbol eol ∷ rest) items = ((items, whole), rest)
+items_after (symbol (char_data word) ∷ rest) items = items_after rest (items ++ word ∷ [])
+items_after (symbol (list words) ∷ rest) items = items_after rest (items ++ words)
+items_after (other ∷ rest) items = ((items, refused other), [])
 
--- how the items end, and where the next entry begins
-abbrev pub stop_of : List Symbol → Stop × List Symbol
-stop_of [] = (whole, [])
-stop_of (symbol eol ∷ rest) = (whole, rest)
-stop_of (other ∷ rest) = (refused (fault_at other), rest)
-
--- what stands from a type on, and where the next entry begins
-abbrev pub typed_at : List ℕ → List Symbol → (List Setting × Body) × List Symbol
-typed_at word rest = (
-  ([], typed word (first_items rest).0 (stop_of (first_items rest).1).0),
-  (stop_of (first_items rest).1).1,
-)
+-- the line of a type with these items
+abbrev pub typed_line : Settings → List ℕ → (List (List ℕ) × Stop) × List Symbol
+    → (Settings × Body) × List Symbol
+typed_line settings word found = ((settings, typed word found.0.0 found.0.1), found.1)
 
 -- an item that is a setting stands before the rest of the line; another is its type
-abbrev pub word_of : Option Setting → List ℕ → List Symbol → (List Setting × Body) × List Symbol
-    → (List Setting × Body) × List Symbol
-word_of (Some setting) word rest line = ((setting ∷ line.0.0, line.0.1), line.1)
-word_of None word rest line = typed_at word rest
+abbrev pub line_by : Option Setting → List ℕ → List Symbol
+    → (Settings → (Settings × Body) × List Symbol)
+    → Settings
+    → (Settings × Body) × List Symbol
+line_by (Some setting) word rest more settings = more (with_setting settings setting)
+line_by None word rest more settings =
+    typed_line settings (str_to_ascii_uppercase word) (items_after rest [])
 
--- the settings of a line, what stands after them, and where the next entry begins
-abbrev pub line_of : List Symbol → (List Setting × Body) × List Symbol
-line_of [] = (([], untyped whole), [])
-line_of (symbol eol ∷ rest) = (([], untyped whole), rest)
-line_of (symbol (char_data word) ∷ rest) = word_of (setting_of word) word rest (line_of rest)
-line_of (other ∷ rest) = (([], untyped (refused (fault_at other))), rest)
+-- after such settings: all of them, what stands after them, and where the next entry begins
+abbrev pub line_after : List Symbol → Settings → (Settings × Body) × List Symbol
+line_after [] settings = ((settings, untyped whole), [])
+line_after (symbol eol ∷ rest) settings = ((settings, untyped whole), rest)
+line_after (symbol (char_data word) ∷ rest) settings =
+    line_by (setting_of word) word rest (line_after rest) settings
+line_after (other ∷ rest) settings = ((settings, untyped (refused other)), [])
 
 -- the entry of an owner and the line after it
-abbrev pub line_entry : Owner → (List Setting × Body) × List Symbol → Entry × List Symbol
-line_entry owner found = (owner_line owner found.0.0 found.0.1, found.1)
+abbrev pub line_of : Owner → (Settings × Body) × List Symbol → Entry × List Symbol
+line_of owner found = (owner_line owner found.0.0 found.0.1, found.1)
 
--- the entry after $ORIGIN, and what stands after it; nothing where the text ends in it
-abbrev pub origin_of : List Symbol → Entry × List Symbol
-origin_of [] = (nothing, [])
-origin_of (symbol (char_data word) ∷ rest) = (origin_entry word, rest)
-origin_of (other ∷ rest) = (faulty_entry (fault_at other), rest)
+-- the entry that needs an item next, by that item and what stands after it; nothing where the text ends there
+abbrev pub with_item : (List ℕ → List Symbol → Entry × List Symbol) → List Symbol
+    → Entry × List Symbol
+with_item entry [] = (nothing, [])
+with_item entry (symbol (char_data word) ∷ rest) = entry word rest
+with_item entry (other ∷ rest) = (faulty_entry other, [])
 
--- the entry after $TTL (RFC 2308, 4), and what stands after it
-abbrev pub default_of : List Symbol → Entry × List Symbol
-default_of [] = (nothing, [])
-default_of (symbol (char_data word) ∷ rest) = (ttl_entry word, rest)
-default_of (other ∷ rest) = (faulty_entry (fault_at other), rest)
-
--- the entry after $INCLUDE and its name: the line has to end there
+-- the entry after $INCLUDE and a name: the line has to end there
 abbrev pub include_end : List ℕ → List Symbol → Entry × List Symbol
 include_end name [] = (nothing, [])
 include_end name (symbol eol ∷ rest) = (include_entry name, rest)
-include_end name (symbol (char_data word) ∷ rest) =
-    (faulty_entry (says (codes "Domain name for $INCLUDE is not supported")), rest)
-include_end name (other ∷ rest) = (faulty_entry (fault_at other), rest)
-
--- the entry after $INCLUDE, and what stands after it
-abbrev pub include_of : List Symbol → Entry × List Symbol
-include_of [] = (nothing, [])
-include_of (symbol (char_data name) ∷ rest) = include_end name rest
-include_of (other ∷ rest) = (faulty_entry (fault_at other), rest)
+include_end name (symbol (char_data word) ∷ rest) = (include_under, rest)
+include_end name (other ∷ rest) = (faulty_entry other, [])
 
 -- the first entry, and what stands after it
 unfoldable pub first_entry : List Symbol → Option (Entry × List Symbol)
 first_entry [] = None
 first_entry (symbol eol ∷ rest) = Some (nothing, rest)
-first_entry (symbol origin_sign ∷ rest) = Some (origin_of rest)
-first_entry (symbol ttl_sign ∷ rest) = Some (default_of rest)
-first_entry (symbol include ∷ rest) = Some (include_of rest)
-first_entry (symbol blank ∷ rest) = Some (line_entry same (line_of rest))
-first_entry (symbol at ∷ rest) = Some (line_entry at_origin (line_of rest))
-first_entry (symbol (char_data word) ∷ rest) = Some (line_entry (named word) (line_of rest))
-first_entry (other ∷ rest) = Some (faulty_entry (fault_at other), rest)
+first_entry (symbol origin_sign ∷ rest) =
+    Some (with_item (λ word more. (origin_entry word, more)) rest)
+first_entry (symbol ttl_sign ∷ rest) = Some (with_item (λ word more. (ttl_entry word, more)) rest)
+first_entry (symbol include ∷ rest) = Some (with_item include_end rest)
+first_entry (symbol blank ∷ rest) = Some (line_of same (line_after rest no_settings))
+first_entry (symbol at ∷ rest) = Some (line_of at_origin (line_after rest no_settings))
+first_entry (symbol (char_data word) ∷ rest) =
+    Some (line_of (named word) (line_after rest no_settings))
+first_entry (other ∷ rest) = Some (faulty_entry other, [])
 
 -- all entries of a text, one after another (RFC 1035, 5.1)
 unfoldable pub entries : List Symbol → List Entry

@@ -1,7 +1,6 @@
 -- The zone of a text: a fold over its entries and those of the texts that it includes (RFC 1035, 5.1).
-use Rattle.std.specs.Option.{ok_or}
+use Rattle.std.specs.Option.{ok_or, unwrap_or}
 use Rattle.std.specs.Prelude.{ℕ, Bool, zero, suc, true, false, if◌then◌else◌, List, [], ◌∷◌, Option, Some, None, Result, Ok, Err, codes, option_map}
-use Rattle.std.specs.Str.{str_to_ascii_uppercase}
 use Rattle.base.specs.Labels.{NameValue}
 use Rattle.base.specs.NameOf.{name_of}
 use Rattle.base.specs.RecordType.{type_from_text}
@@ -19,13 +18,14 @@ use Rattle.txt.specs.Entries.{
   Body,
   Entry,
   Owner,
-  Setting,
+  Settings,
   Stop,
   at_origin,
-  class_is,
   entries_of,
+  fault_at,
   faulty_entry,
   include_entry,
+  include_under,
   named,
   nothing,
   origin_entry,
@@ -33,7 +33,6 @@ use Rattle.txt.specs.Entries.{
   refused,
   same,
   ttl_entry,
-  ttl_is,
   typed,
   untyped,
   whole,
@@ -65,17 +64,13 @@ absolute name = record name { absolute = true }
 
 -- ---- a record
 
--- the type that a text names in upper case
+-- the type that a text in upper case names
 abbrev pub type_named : List ℕ → Result RecordType Fault
-type_named word =
-    ok_or (type_from_text (str_to_ascii_uppercase word))
-    (unknown_type (str_to_ascii_uppercase word))
+type_named word = ok_or (type_from_text word) (unknown_type word)
 
 -- the same, or where the generic form may stand, by its number too
 abbrev pub type_in : ZoneState → List ℕ → Result RecordType Fault
-type_in s word = if s.generic
-    then ok_or (any_type (str_to_ascii_uppercase word)) (unknown_type (str_to_ascii_uppercase word))
-    else type_named word
+type_in s word = if s.generic then ok_or (any_type word) (unknown_type word) else type_named word
 
 -- the data of a type that items name under the origin in force, or where the generic form may stand, in that form too
 abbrev pub data_in : ZoneState → RecordType → List (List ℕ) → Result RData Fault
@@ -128,27 +123,24 @@ recorded s rdata = record_of s rdata >>= λ r. state_with s r >>= λ t. Ok (spen
 
 -- ---- an entry
 
--- what was read, or the fault that the entry ends with
-abbrev pub stopped : {A : Type 0} → Stop → A → Result A Fault
-stopped whole a = Ok a
-stopped (refused fault) a = Err fault
+-- the fault that an entry ends with, if it ends with one
+abbrev pub stopped : ZoneState → Stop → Result ZoneState Fault
+stopped s whole = Ok s
+stopped s (refused other) = Err (fault_at other)
 
--- what a setting puts into force
-abbrev pub set_by : ZoneState → Setting → ZoneState
-set_by s (ttl_is ttl) = record s { pending = Some ttl }
-set_by s (class_is class) = record s { dns_class = class }
-
--- settings, one after the other
-abbrev pub settled : ZoneState → List Setting → ZoneState
-settled s [] = s
-settled s (setting ∷ settings) = settled (set_by s setting) settings
+-- what a line states is in force
+abbrev pub settled : ZoneState → Settings → ZoneState
+settled s settings = record s {
+  pending = else_of settings.ttl s.pending;
+  dns_class = unwrap_or settings.dns_class s.dns_class;
+}
 
 -- what stands after the settings: the type, the end of the line, the data, and then the record
 abbrev pub carried : ZoneState → Body → Result ZoneState Fault
-carried s (untyped stop) = stopped stop s
+carried s (untyped stop) = stopped s stop
 carried s (typed word items stop) =
-    type_in s word >>= λ type. stopped stop items >>= λ words. data_in s type words
-    >>= λ rdata. recorded s rdata
+    type_in s word >>= λ type. stopped s stop >>= λ t. data_in t type items
+    >>= λ rdata. recorded t rdata
 
 -- the owner of a line: a name, the origin, or the last owner
 abbrev pub owned : ZoneState → Owner → Result ZoneState Fault
@@ -163,8 +155,9 @@ apply s (origin_entry text) = name_of text None >>= λ name. Ok (record s { orig
 apply s (ttl_entry text) = ok_or (ttl_of text) bad_ttl
     >>= λ ttl. Ok (record s { default_ttl = Some ttl })
 apply s (include_entry name) = Ok s
+apply s include_under = Err (says (codes "Domain name for $INCLUDE is not supported"))
 apply s (owner_line owner settings body) = owned s owner >>= λ t. carried (settled t settings) body
-apply s (faulty_entry fault) = Err fault
+apply s (faulty_entry other) = Err (fault_at other)
 
 -- ---- all entries
 

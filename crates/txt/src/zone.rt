@@ -7,6 +7,7 @@ ghost use Rattle.txt.specs.Parser.{named_texts, text_among};
 ghost use Rattle.txt.specs.ZoneSets.{AreKeyed};
 
 mod context;
+mod entry;
 mod run;
 pub mod sets;
 mod texts;

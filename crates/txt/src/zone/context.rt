@@ -1,24 +1,20 @@
-//! What is in force between the entries of a text, and how an entry changes it.
+//! What is in force between the entries of a text, and what an entry makes of it.
 
-ghost use Rattle.base.specs.NameOf.{name_of};
 ghost use Rattle.base.specs.TextFaults.{Gives};
-ghost use Rattle.base.specs.TokenList.{symbols};
 ghost use Rattle.base.specs.Tokens.{texts};
 ghost use Rattle.base_data.specs.declared.rdata.RData.{RData};
-ghost use Rattle.std.specs.Prelude.{IfErr, IfOk, List, None, Ok, OnOk, Some, false, map, ℕ, ◌≡◌};
-ghost use Rattle.std.specs.Str.{str_to_ascii_uppercase};
+ghost use Rattle.std.specs.Prelude.{IfOk, Ok, OnOk, false, map, ◌≡◌};
 ghost use Rattle.std.specs.String.{string_bytes};
-ghost use Rattle.txt.specs.Entries.{setting_of};
-ghost use Rattle.txt.specs.Steps.{AnswersStep, Goes, MakesState, ReadsSymbols, ReadsToken, Takes, setting_value, took_at, took_default, took_include, took_include_end, took_items, took_named, took_origin, took_typed, took_words};
-ghost use Rattle.txt.specs.Zone.{ZoneState, absolute, answered, beginning, data_in, record_of, recorded, set_by, spent, type_in, state_with};
+ghost use Rattle.txt.specs.Cutting.{body_value, entry_value, owner_value, settings_value, stop_value};
+ghost use Rattle.txt.specs.Zone.{ZoneState, absolute, answered, apply, beginning, carried, data_in, owned, record_of, recorded, settled, spent, state_with, stopped, type_in};
 
+use crate::zone::entry::{Body, Entry, Owner, Settings, Stop};
 use crate::zone::sets::ZoneSets;
-use base::{DNSClass, Lexer, Name, ParseError, RecordType, Token, parse_ttl};
+use base::{DNSClass, Name, ParseError, RecordType, parse_ttl};
 use base_data::{RData, parse_type};
 use rr::Record;
 use std::alloc::{AllocError, Global};
 use std::marker::Model;
-use std::mem::replace;
 
 /// What is in force between entries.
 #[derive(Drop)]
@@ -33,8 +29,6 @@ pub(super) struct Context {
     default_ttl: Option<u32>,
     last_ttl: Option<u32>,
     sets: ZoneSets,
-    /// The items of the data that was read last, whose list serves again.
-    items: Vec<String>,
 }
 
 impl Model for Context {
@@ -55,26 +49,6 @@ impl Model for Context {
         } };
 }
 
-/// What was met between entries.
-#[derive(Drop)]
-pub(super) enum Step {
-    /// An entry that was carried out.
-    Applied,
-    /// An entry that opens the text of this name.
-    Include(String),
-    /// The end of the text.
-    End,
-}
-
-/// What an item states before the type.
-#[derive(Drop)]
-enum Setting {
-    /// The TTL of the next record, in seconds.
-    Ttl(u32),
-    /// The class of the records from here on.
-    Class(DNSClass),
-}
-
 impl Context {
     /// What is in force before the first entry; the origin is made absolute. Takes no memory.
     pub(super) fn new(alloc: Global, origin: Option<Name>, generic: bool) -> Context
@@ -90,163 +64,85 @@ impl Context {
             default_ttl: None,
             last_ttl: None,
             sets: ZoneSets::new(alloc),
-            items: Vec::new(alloc),
         }
     }
 
-    /// Reads the next entry, and carries it out.
-    pub(super) fn next_entry(&mut self, lexer: &mut Lexer<'_>) -> Result<Step, ParseError>
-        ensures { AnswersStep result self.old self.new (symbols lexer.old) (symbols lexer.new) }
+    /// What an entry makes of it, if it opens no text.
+    ///
+    /// # Errors
+    ///
+    /// The fault of the entry; `Memory` if memory runs out.
+    #[tactic(auto, unfolding(crate::specs::Zone::apply))]
+    pub(super) fn apply(&mut self, entry: Entry) -> Result<(), ParseError>
+        ensures { Gives (λ _. self.new) result (apply self.old (entry_value entry)) }
     {
-        match read_token(lexer)? {
-            None => Ok(Step::End),
-            Some(Token::EOL) => Ok(Step::Applied),
-            Some(Token::Origin) => {
-                self.take_origin(lexer)?;
-                Ok(Step::Applied)
-            }
-            Some(Token::Ttl) => {
-                self.take_default(lexer)?;
-                Ok(Step::Applied)
-            }
-            Some(Token::Include) => take_include(lexer),
-            Some(Token::Blank) => {
-                self.take_line(lexer)?;
-                Ok(Step::Applied)
-            }
-            Some(Token::At) => {
-                self.take_at_sign(lexer)?;
-                Ok(Step::Applied)
-            }
-            Some(Token::CharData(word)) => {
-                self.take_named(word, lexer)?;
-                Ok(Step::Applied)
-            }
-            Some(Token::List(items)) => Err(ParseError::UnexpectedToken(Token::List(items))),
-        }
-    }
-
-    /// After the sign @: the owner is the origin, and then comes the rest of the line.
-    fn take_at_sign(&mut self, lexer: &mut Lexer<'_>) -> Result<(), ParseError>
-        ensures { Goes result self.new (symbols lexer.new) (took_at self.old (symbols lexer.old)) }
-    {
-        let origin = self.copy_origin()?;
-        self.set_owner(origin);
-        self.take_line(lexer)
-    }
-
-    /// After an owner's text: the name that it names, and then the rest of the line.
-    fn take_named(&mut self, word: String, lexer: &mut Lexer<'_>) -> Result<(), ParseError>
-        ensures { Goes result self.new (symbols lexer.new)
-            (took_named self.old (string_bytes word) (symbols lexer.old)) }
-    {
-        let name = self.parse_name(word.as_str())?;
-        self.set_owner(Some(name));
-        self.take_line(lexer)
-    }
-
-    /// The name that a text names, under the origin.
-    fn parse_name(&self, text: &str) -> Result<Name, ParseError>
-        ensures { Gives (λ n. n) result (name_of text.now self.now.origin) }
-    {
-        Name::parse(self.alloc, text, self.origin.as_ref())
-    }
-
-    /// Sets the owner.
-    fn set_owner(&mut self, owner: Option<Name>)
-        ensures { self.new ≡ record self.old { owner = owner } }
-    {
-        self.owner = owner;
-    }
-
-    /// After `$ORIGIN`: the name becomes the origin.
-    fn take_origin(&mut self, lexer: &mut Lexer<'_>) -> Result<(), ParseError>
-        ensures { Goes result self.new (symbols lexer.new)
-            (took_origin self.old (symbols lexer.old)) }
-    {
-        let Some(token) = read_token(lexer)? else {
-            return Ok(());
-        };
-        match token {
-            Token::CharData(word) => {
-                self.origin = Some(Name::parse(self.alloc, word.as_str(), None)?);
+        match entry {
+            Entry::Nothing => Ok(()),
+            Entry::Origin(text) => {
+                self.origin = Some(Name::parse(self.alloc, text.as_str(), None)?);
                 Ok(())
             }
-            other => Err(ParseError::UnexpectedToken(other)),
-        }
-    }
-
-    /// After `$TTL`: the TTL becomes the default.
-    fn take_default(&mut self, lexer: &mut Lexer<'_>) -> Result<(), ParseError>
-        ensures { Goes result self.new (symbols lexer.new)
-            (took_default self.old (symbols lexer.old)) }
-    {
-        let Some(token) = read_token(lexer)? else {
-            return Ok(());
-        };
-        match token {
-            Token::CharData(word) => {
-                let Ok(ttl) = parse_ttl(word.as_str()) else {
+            Entry::Ttl(text) => {
+                let Ok(ttl) = parse_ttl(text.as_str()) else {
                     return Err(ParseError::BadTtl);
                 };
                 self.default_ttl = Some(ttl);
                 Ok(())
             }
-            other => Err(ParseError::UnexpectedToken(other)),
+            Entry::Include(_) => Ok(()),
+            Entry::IncludeUnder => Err(ParseError::Message(
+                "Domain name for $INCLUDE is not supported",
+            )),
+            Entry::Line(owner, settings, body) => {
+                self.set_owner(owner)?;
+                self.settle(settings);
+                self.carry_out(body)
+            }
+            Entry::Faulty(other) => Err(other.into_fault()),
         }
     }
 
-    /// After an owner: settings, and then the end of the line, or a type and its data.
-    fn take_line(&mut self, lexer: &mut Lexer<'_>) -> Result<(), ParseError>
-        ensures { Goes result self.new (symbols lexer.new)
-            (took_words self.old (symbols lexer.old)) }
+    /// The owner of a line: a name, the origin, or the last owner.
+    fn set_owner(&mut self, owner: Owner) -> Result<(), ParseError>
+        ensures { Gives (λ _. self.new) result (owned self.old (owner_value owner)) }
     {
-        'words: loop {
-            let Some(token) = read_token(lexer)? else {
-                return Ok(());
-            };
-            match token {
-                Token::EOL => return Ok(()),
-                Token::CharData(word) => {
-                    match setting_of(word) {
-                        Ok(setting) => self.apply_setting(setting),
-                        Err(raised) => return self.take_record(raised, lexer),
-                    }
-                }
-                other => return Err(ParseError::UnexpectedToken(other)),
+        match owner {
+            Owner::Named(text) => {
+                let name = Name::parse(self.alloc, text.as_str(), self.origin.as_ref())?;
+                self.owner = Some(name);
+            }
+            Owner::Origin => self.owner = self.copy_origin()?,
+            Owner::Same => {}
+        }
+        Ok(())
+    }
+
+    /// What a line states is in force.
+    fn settle(&mut self, settings: Settings)
+        ensures { self.new ≡ settled self.old (settings_value settings) }
+    {
+        self.pending = settings.ttl.or(self.pending);
+        self.dns_class = settings.dns_class.unwrap_or(self.dns_class);
+    }
+
+    /// What stands after the settings of a line: nothing, or a record.
+    fn carry_out(&mut self, body: Body) -> Result<(), ParseError>
+        ensures { Gives (λ _. self.new) result (carried self.old (body_value body)) }
+    {
+        match body {
+            Body::Untyped(stop) => end_at(stop),
+            Body::Typed(word, items, stop) => {
+                let record_type = self.type_of_text(word)?;
+                end_at(stop)?;
+                let rdata = self.parse_data(record_type, &items)?;
+                self.add_record(rdata)
             }
         }
     }
 
-    /// Carries out what an item states.
-    fn apply_setting(&mut self, setting: Setting)
-        ensures { self.new ≡ set_by self.old (setting_value setting) }
-    {
-        match setting {
-            Setting::Ttl(ttl) => self.pending = Some(ttl),
-            Setting::Class(dns_class) => self.dns_class = dns_class,
-        }
-    }
-
-    /// After the type's text, in upper case: the items of the data, and then the record.
-    fn take_record(&mut self, raised: String, lexer: &mut Lexer<'_>) -> Result<(), ParseError>
-        ensures { (word : List ℕ) → string_bytes raised ≡ str_to_ascii_uppercase word
-            → Goes result self.new (symbols lexer.new)
-            (took_typed self.old word (symbols lexer.old)) }
-    {
-        let record_type = self.type_of_text(raised)?;
-        let mut items = replace(&mut self.items, Vec::new(self.alloc));
-        read_items(&mut items, lexer)?;
-        let rdata = self.parse_data(record_type, &items)?;
-        self.items = items;
-        self.add_record(rdata)?;
-        Ok(())
-    }
-
     /// The type that a text in upper case names.
     fn type_of_text(&self, raised: String) -> Result<RecordType, ParseError>
-        ensures { (word : List ℕ) → string_bytes raised ≡ str_to_ascii_uppercase word
-            → Gives (λ t. t) result (type_in self.now word) }
+        ensures { Gives (λ t. t) result (type_in self.now (string_bytes raised)) }
     {
         if self.generic {
             return parse_type(raised);
@@ -283,7 +179,7 @@ impl Context {
 
     /// Makes a record of data, with what is in force.
     fn add_record(&mut self, rdata: RData) -> Result<(), ParseError>
-        ensures { MakesState result self.new (recorded self.old rdata) }
+        ensures { Gives (λ _. self.new) result (recorded self.old rdata) }
     {
         let (name, ttl) = self.owner_and_ttl()?;
         let entry = Record {
@@ -322,7 +218,7 @@ impl Context {
 
     /// Puts a record into the sets.
     fn add(&mut self, entry: Record) -> Result<(), ParseError>
-        ensures { MakesState result self.new (state_with self.old entry) }
+        ensures { Gives (λ _. self.new) result (state_with self.old entry) }
     {
         self.sets.add(entry)
     }
@@ -378,83 +274,13 @@ fn make_absolute(mut name: Name) -> Name
     name
 }
 
-/// After `$INCLUDE`: the name of a text, and the end of the line.
-fn take_include(lexer: &mut Lexer<'_>) -> Result<Step, ParseError>
-    ensures { (s : ZoneState)
-        → Takes result s s (symbols lexer.new) (took_include s (symbols lexer.old)) }
+/// The fault that an entry ends with, if it ends with one.
+fn end_at(stop: Stop) -> Result<(), ParseError>
+    ensures { (s : ZoneState) → Gives (λ _. s) result (stopped s (stop_value stop)) }
 {
-    let Some(token) = read_token(lexer)? else {
-        return Ok(Step::Applied);
-    };
-    match token {
-        Token::CharData(name) => end_include(name, lexer),
-        other => Err(ParseError::UnexpectedToken(other)),
-    }
-}
-
-/// After the name of an included text: the end of the line.
-fn end_include(name: String, lexer: &mut Lexer<'_>) -> Result<Step, ParseError>
-    ensures { (s : ZoneState)
-        → Takes result s s (symbols lexer.new)
-        (took_include_end s (string_bytes name) (symbols lexer.old)) }
-{
-    let Some(token) = read_token(lexer)? else {
-        return Ok(Step::Applied);
-    };
-    match token {
-        Token::EOL => Ok(Step::Include(name)),
-        Token::CharData(_domain) => Err(ParseError::Message(
-            "Domain name for $INCLUDE is not supported",
-        )),
-        other => Err(ParseError::UnexpectedToken(other)),
-    }
-}
-
-/// What an item states before the type: a TTL, else a class, in upper or lower case. Where it is neither, the item
-/// comes back in upper case.
-#[tactic(auto, unfolding(crate::specs::Entries::setting_of))]
-fn setting_of(word: String) -> Result<Setting, String>
-    ensures setting { IfOk result (λ setting. setting_of (string_bytes word)
-        ≡ Some (setting_value setting)) }
-    ensures none { IfErr result (λ _. setting_of (string_bytes word) ≡ None) }
-    ensures raised { IfErr result (λ raised. string_bytes raised
-        ≡ str_to_ascii_uppercase (string_bytes word)) }
-{
-    if let Ok(ttl) = parse_ttl(word.as_str()) {
-        return Ok(Setting::Ttl(ttl));
-    }
-    let mut raised = word;
-    raised.make_ascii_uppercase();
-    match DNSClass::from_text(raised.as_str()) {
-        Some(dns_class) => Ok(Setting::Class(dns_class)),
-        None => Err(raised),
-    }
-}
-
-/// The next token of a text.
-fn read_token(lexer: &mut Lexer<'_>) -> Result<Option<Token>, ParseError>
-    ensures { ReadsToken result (symbols lexer.old) (symbols lexer.new) }
-{
-    lexer.next_token()
-}
-
-/// Puts the items of the data, up to the end of the line or of the text, in the place of others.
-fn read_items(items: &mut Vec<String>, lexer: &mut Lexer<'_>) -> Result<(), ParseError>
-    ensures { ReadsSymbols (λ _. texts items.new.items) result (symbols lexer.new)
-        (took_items (symbols lexer.old)) }
-{
-    items.clear();
-    'items: loop {
-        let Some(token) = read_token(lexer)? else {
-            // The end of the text ends its last line too.
-            return Ok(());
-        };
-        match token {
-            Token::EOL => return Ok(()),
-            Token::CharData(word) => items.push(word)?,
-            Token::List(mut words) => items.append(&mut words)?,
-            other => return Err(ParseError::UnexpectedToken(other)),
-        }
+    match stop {
+        Stop::Whole => Ok(()),
+        Stop::Refused(other) => Err(other.into_fault()),
     }
 }
 

@@ -7,10 +7,9 @@ ghost use Rattle.std.specs.List.{AllByRecursion};
 ghost use Rattle.std.specs.List.Sorted.{IsStrictlySortedBy};
 ghost use Rattle.std.specs.Map.{keys_of, lookup};
 ghost use Rattle.base.specs.RrKey.{key_cmp};
-ghost use Rattle.base.specs.TextFaults.{FailsWith};
+ghost use Rattle.base.specs.TextFaults.{FailsWith, Gives};
 ghost use Rattle.txt.specs.Gathered.{ComesAfter, HasLastKey, HaveOwnKeys, IsAscending, KnowsSoas, gathered, with_keyed};
 ghost use Rattle.txt.specs.Run.{sets_in};
-ghost use Rattle.txt.specs.Steps.{MakesSets};
 ghost use Rattle.txt.specs.ZoneSets.{AreKeyed, sets_with, soa_again};
 ghost use Rattle.rr.specs.Record.{record_key};
 
@@ -63,7 +62,7 @@ impl ZoneSets {
     ///
     /// `Message` for a second SOA of an owner; `Memory` if memory runs out.
     pub(super) fn add(&mut self, entry: Record) -> Result<(), ParseError>
-        ensures { MakesSets result self.new (sets_with self.old entry) }
+        ensures { Gives (λ _. self.new) result (sets_with self.old entry) }
     {
         let key = make_room(&mut self.entries, &mut self.soas, &entry)?;
         self.entries.push_reserved((key, entry));
@@ -128,8 +127,8 @@ fn make_room(
         (entries.old.items ++ (record_key entry.now, entry.now) ∷ [])) }
     ensures err { OnErr result (soas.new.entries ≡ soas.old.entries) }
     // The record makes the sets that are made once it has gone in, or is refused.
-    ensures sets { MakesSets result
-        (gathered (entries.old.items ++ (record_key entry.now, entry.now) ∷ []))
+    ensures sets { Gives
+        (λ _. gathered (entries.old.items ++ (record_key entry.now, entry.now) ∷ [])) result
         (sets_with (gathered entries.old.items) entry.now) }
 {
     entries.reserve(1)?;

@@ -2,10 +2,11 @@
 
 ghost use Rattle.std.specs.Prelude.{◌≡◌};
 ghost use Rattle.base.specs.TextFaults.{Gives};
-ghost use Rattle.txt.specs.Steps.{texts_in};
+ghost use Rattle.txt.specs.Parser.{texts_in};
 ghost use Rattle.txt.specs.Zone.{folded_text};
 
-use crate::zone::context::{Context, Step};
+use crate::zone::context::Context;
+use crate::zone::entry::{Entry, next_entry};
 use base::{Lexer, Name, ParseError};
 use std::alloc::Global;
 use std::collections::BTreeMap;
@@ -22,7 +23,7 @@ struct Frame<'a> {
     origin: Option<Name>,
 }
 
-/// Carries out all entries of a text, and of those that it includes.
+/// What all entries of a text make of it, and of those that it includes.
 pub(super) fn read_texts<'a>(
     alloc: Global,
     text: &'a str,
@@ -35,9 +36,16 @@ pub(super) fn read_texts<'a>(
     let mut lexer = Lexer::new(alloc, text);
     let mut below: Vec<Frame<'a>> = Vec::new(alloc);
     'entries: loop {
-        match context.next_entry(&mut lexer)? {
-            Step::Applied => continue,
-            Step::Include(name) => {
+        let Some(entry) = next_entry(alloc, &mut lexer)? else {
+            let Some(frame) = below.pop() else {
+                return Ok(());
+            };
+            lexer = frame.lexer;
+            context.set_origin(frame.origin);
+            continue;
+        };
+        match entry {
+            Entry::Include(name) => {
                 if below.len() >= MAX_DEPTH {
                     return Err(ParseError::Message(
                         "Max depth level for nested $INCLUDE is reached",
@@ -50,13 +58,7 @@ pub(super) fn read_texts<'a>(
                 below.push(Frame { lexer, origin })?;
                 lexer = Lexer::new(alloc, included.as_str());
             }
-            Step::End => {
-                let Some(frame) = below.pop() else {
-                    return Ok(());
-                };
-                lexer = frame.lexer;
-                context.set_origin(frame.origin);
-            }
+            other => context.apply(other)?,
         }
     }
 }

@@ -1,5 +1,5 @@
 use Rattle.std.proofs.Common.{◌≡◌, List, take, ℕ}
-use Rattle.txt.specs.Steps.{texts_in}
+use Rattle.txt.specs.Parser.{texts_in}
 use Rattle.commands.specs.Words.{as_bytes}
 use Rattle.commands.specs.ZoneCommand.{text_named}
 use Rattle.commands.proofs.zone_command.included_texts.Given as goal

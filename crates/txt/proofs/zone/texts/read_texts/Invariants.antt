@@ -1,5 +1,5 @@
 use Rattle.std.proofs.Common.{reverse}
-use Rattle.txt.specs.Steps.{texts_in}
+use Rattle.txt.specs.Parser.{texts_in}
 use Rattle.txt.specs.Zone.{max_depth, folded_text}
 use Rattle.txt.proofs.Stack.{Remains, work}
 use Rattle.txt.proofs.zone.texts.read_texts.Given as goal

@@ -1,0 +1,295 @@
+//! The entries of zone text, which are cut off it one after the other (RFC 1035, 5.1).
+
+ghost use Rattle.base.specs.TextFaults.{fault_of};
+ghost use Rattle.base.specs.TokenList.{symbols};
+ghost use Rattle.base.specs.Tokens.{texts};
+ghost use Rattle.std.specs.Prelude.{IfErr, IfOk, None, Some, [], ◌≡◌};
+ghost use Rattle.std.specs.Str.{str_to_ascii_uppercase};
+ghost use Rattle.std.specs.String.{string_bytes};
+ghost use Rattle.txt.specs.Cutting.{FindsItem, ReadsSymbol, body_value, cut_off, found_first, owner_value, rest_of_body, rest_of_stop, setting_value, settings_value, stop_value, symbol_value};
+ghost use Rattle.txt.specs.Entries.{fault_at, first_entry, include_end, items_after, line_after, line_of, no_settings, setting_of, with_setting};
+
+use base::{DNSClass, Lexer, ParseError, Token, parse_ttl};
+use std::alloc::{AllocError, Global};
+
+/// What stands next in a text: a token, or what can't be cut into one.
+#[derive(Drop)]
+pub(super) enum Symbol {
+    /// A token.
+    Token(Token),
+    /// What the lexer refuses.
+    Broken,
+}
+
+impl Symbol {
+    /// The fault of an entry that this has no place in.
+    pub(super) fn into_fault(self) -> ParseError
+        ensures { fault_of result ≡ Some (fault_at (symbol_value self)) }
+    {
+        match self {
+            Symbol::Token(token) => ParseError::UnexpectedToken(token),
+            Symbol::Broken => ParseError::Lexer,
+        }
+    }
+}
+
+/// How an entry ends.
+#[derive(Drop)]
+pub(super) enum Stop {
+    /// As it may: with its line or with the text.
+    Whole,
+    /// By what has no place in it.
+    Refused(Symbol),
+}
+
+/// Whose a line is.
+#[derive(Drop)]
+pub(super) enum Owner {
+    /// That of the name that this text names.
+    Named(String),
+    /// That of the origin, by the sign `@`.
+    Origin,
+    /// That of the last stated owner, by a blank.
+    Same,
+}
+
+/// What an item states before the type.
+#[derive(Drop)]
+enum Setting {
+    /// The TTL of the next record, in seconds.
+    Ttl(u32),
+    /// The class of the records from here on.
+    Class(DNSClass),
+}
+
+/// What a line states before its type, each by the last item that states one.
+#[derive(Drop)]
+pub(super) struct Settings {
+    /// The TTL of the next record, in seconds.
+    pub(super) ttl: Option<u32>,
+    /// The class of the records from here on.
+    pub(super) dns_class: Option<DNSClass>,
+}
+
+impl Settings {
+    /// One more setting.
+    fn add(&mut self, setting: Setting)
+        ensures { settings_value self.new
+            ≡ with_setting (settings_value self.old) (setting_value setting) }
+    {
+        match setting {
+            Setting::Ttl(ttl) => self.ttl = Some(ttl),
+            Setting::Class(dns_class) => self.dns_class = Some(dns_class),
+        }
+    }
+}
+
+/// What stands after the settings of a line.
+#[derive(Drop)]
+pub(super) enum Body {
+    /// Nothing.
+    Untyped(Stop),
+    /// The text of a type, in upper case, and the items of the data.
+    Typed(String, Vec<String>, Stop),
+}
+
+/// An entry, as far as it stands in the text.
+#[derive(Drop)]
+pub(super) enum Entry {
+    /// The end of a line, or `$ORIGIN`, `$TTL` or `$INCLUDE` at the end of the text.
+    Nothing,
+    /// `$ORIGIN` and a name.
+    Origin(String),
+    /// `$TTL` and a TTL (RFC 2308, 4).
+    Ttl(String),
+    /// `$INCLUDE` and the name of a text.
+    Include(String),
+    /// `$INCLUDE`, the name of a text and that of an origin.
+    IncludeUnder,
+    /// The line of an owner.
+    Line(Owner, Settings, Body),
+    /// An entry other than a line that ends with what has no place in it.
+    Faulty(Symbol),
+}
+
+/// The next entry of a text, which it is cut off from; `None` at the end.
+///
+/// # Errors
+///
+/// If memory runs out.
+#[tactic(auto, unfolding(crate::specs::Entries::first_entry))]
+pub(super) fn next_entry(alloc: Global, lexer: &mut Lexer<'_>) -> Result<Option<Entry>, AllocError>
+    ensures { IfOk result (λ found. first_entry (symbols lexer.old)
+        ≡ found_first found (symbols lexer.new)) }
+{
+    let Some(symbol) = next_symbol(lexer)? else {
+        return Ok(None);
+    };
+    let token = match symbol {
+        Symbol::Token(token) => token,
+        Symbol::Broken => return Ok(Some(Entry::Faulty(Symbol::Broken))),
+    };
+    let entry = match token {
+        Token::EOL => Entry::Nothing,
+        Token::Origin => match cut_item(lexer)? {
+            Ok(name) => Entry::Origin(name),
+            Err(ended) => ended,
+        },
+        Token::Ttl => match cut_item(lexer)? {
+            Ok(ttl) => Entry::Ttl(ttl),
+            Err(ended) => ended,
+        },
+        Token::Include => match cut_item(lexer)? {
+            Ok(name) => cut_include_end(name, lexer)?,
+            Err(ended) => ended,
+        },
+        Token::Blank => cut_line(alloc, Owner::Same, lexer)?,
+        Token::At => cut_line(alloc, Owner::Origin, lexer)?,
+        Token::CharData(name) => cut_line(alloc, Owner::Named(name), lexer)?,
+        Token::List(items) => Entry::Faulty(Symbol::Token(Token::List(items))),
+    };
+    Ok(Some(entry))
+}
+
+/// What stands next in a text; `None` at its end.
+///
+/// # Errors
+///
+/// If memory runs out.
+fn next_symbol(lexer: &mut Lexer<'_>) -> Result<Option<Symbol>, AllocError>
+    ensures { IfOk result (λ met. ReadsSymbol met (symbols lexer.old) (symbols lexer.new)) }
+{
+    match lexer.next_token() {
+        Ok(None) => Ok(None),
+        Ok(Some(token)) => Ok(Some(Symbol::Token(token))),
+        Err(error) => match error {
+            ParseError::Memory => Err(AllocError),
+            _fault => Ok(Some(Symbol::Broken)),
+        },
+    }
+}
+
+/// The item that an entry needs next, or the entry, where it ends before one.
+///
+/// # Errors
+///
+/// If memory runs out.
+fn cut_item(lexer: &mut Lexer<'_>) -> Result<Result<String, Entry>, AllocError>
+    ensures { IfOk result (λ found. FindsItem found (symbols lexer.old) (symbols lexer.new)) }
+{
+    match next_symbol(lexer)? {
+        None => Ok(Err(Entry::Nothing)),
+        Some(Symbol::Token(Token::CharData(word))) => Ok(Ok(word)),
+        Some(other) => Ok(Err(Entry::Faulty(other))),
+    }
+}
+
+/// After `$INCLUDE` and the name of a text: the end of the line.
+///
+/// # Errors
+///
+/// If memory runs out.
+fn cut_include_end(name: String, lexer: &mut Lexer<'_>) -> Result<Entry, AllocError>
+    ensures { IfOk result (λ e. include_end (string_bytes name) (symbols lexer.old)
+        ≡ cut_off e (symbols lexer.new)) }
+{
+    match next_symbol(lexer)? {
+        None => Ok(Entry::Nothing),
+        Some(Symbol::Token(Token::EOL)) => Ok(Entry::Include(name)),
+        Some(Symbol::Token(Token::CharData(_origin))) => Ok(Entry::IncludeUnder),
+        Some(other) => Ok(Entry::Faulty(other)),
+    }
+}
+
+/// The line after an owner.
+///
+/// # Errors
+///
+/// If memory runs out.
+fn cut_line(alloc: Global, owner: Owner, lexer: &mut Lexer<'_>) -> Result<Entry, AllocError>
+    ensures { IfOk result (λ e.
+        line_of (owner_value owner) (line_after (symbols lexer.old) no_settings)
+        ≡ cut_off e (symbols lexer.new)) }
+{
+    let (settings, body) = cut_settings(alloc, lexer)?;
+    Ok(Entry::Line(owner, settings, body))
+}
+
+/// Settings, and then the end of the line, or a type and the items of its data.
+///
+/// # Errors
+///
+/// If memory runs out.
+fn cut_settings(alloc: Global, lexer: &mut Lexer<'_>) -> Result<(Settings, Body), AllocError>
+    ensures { IfOk result (λ line. line_after (symbols lexer.old) no_settings
+        ≡ (
+          (settings_value line.0, body_value line.1),
+          rest_of_body (body_value line.1) (symbols lexer.new),
+        )) }
+{
+    let mut settings = Settings {
+        ttl: None,
+        dns_class: None,
+    };
+    'words: loop {
+        match next_symbol(lexer)? {
+            None => return Ok((settings, Body::Untyped(Stop::Whole))),
+            Some(Symbol::Token(Token::EOL)) => {
+                return Ok((settings, Body::Untyped(Stop::Whole)));
+            }
+            Some(Symbol::Token(Token::CharData(word))) => match setting_of(word) {
+                Ok(setting) => settings.add(setting),
+                Err(raised) => {
+                    let (items, stop) = cut_items(alloc, lexer)?;
+                    return Ok((settings, Body::Typed(raised, items, stop)));
+                }
+            },
+            Some(other) => return Ok((settings, Body::Untyped(Stop::Refused(other)))),
+        }
+    }
+}
+
+/// What an item states before the type: a TTL, else a class, in upper or lower case. Where it is neither, the item
+/// comes back in upper case.
+#[tactic(auto, unfolding(crate::specs::Entries::setting_of))]
+fn setting_of(word: String) -> Result<Setting, String>
+    ensures setting { IfOk result (λ setting. setting_of (string_bytes word)
+        ≡ Some (setting_value setting)) }
+    ensures none { IfErr result (λ _. setting_of (string_bytes word) ≡ None) }
+    ensures raised { IfErr result (λ raised. string_bytes raised
+        ≡ str_to_ascii_uppercase (string_bytes word)) }
+{
+    if let Ok(ttl) = parse_ttl(word.as_str()) {
+        return Ok(Setting::Ttl(ttl));
+    }
+    let mut raised = word;
+    raised.make_ascii_uppercase();
+    match DNSClass::from_text(raised.as_str()) {
+        Some(dns_class) => Ok(Setting::Class(dns_class)),
+        None => Err(raised),
+    }
+}
+
+/// The items of the data, up to the end of the line or of the text, which ends its last line too.
+///
+/// # Errors
+///
+/// If memory runs out.
+fn cut_items(alloc: Global, lexer: &mut Lexer<'_>) -> Result<(Vec<String>, Stop), AllocError>
+    ensures { IfOk result (λ found. items_after (symbols lexer.old) []
+        ≡ (
+          (texts found.0.items, stop_value found.1),
+          rest_of_stop (stop_value found.1) (symbols lexer.new),
+        )) }
+{
+    let mut items = Vec::new(alloc);
+    'items: loop {
+        match next_symbol(lexer)? {
+            None => return Ok((items, Stop::Whole)),
+            Some(Symbol::Token(Token::EOL)) => return Ok((items, Stop::Whole)),
+            Some(Symbol::Token(Token::CharData(word))) => items.push(word)?,
+            Some(Symbol::Token(Token::List(mut words))) => items.append(&mut words)?,
+            Some(other) => return Ok((items, Stop::Refused(other))),
+        }
+    }
+}
