@@ -44,14 +44,19 @@ def built(crate, name, words):
     return program
 
 
-def build_loop(copy):
-    """The program that loops over its input, built in a copy of the repository."""
+def build_measured(copy, name, words):
+    """A program of this folder, built in a copy of the repository."""
     with open(f"{copy}/crates.txt", "a", encoding="utf-8") as crates:
-        crates.write(f"measure: {' '.join(BELOW)}\n")
-    folder = f"{copy}/crates/measure"
+        crates.write(f"{name}: {' '.join(BELOW)}\n")
+    folder = f"{copy}/crates/{name}"
     os.makedirs(f"{folder}/src")
-    shutil.copy(f"{SOURCES}/main.rt.txt", f"{folder}/src/main.rt")
-    return built(folder, "measure", ["read", "0"])
+    shutil.copy(f"{SOURCES}/{name}.rt.txt", f"{folder}/src/main.rt")
+    return built(folder, name, words)
+
+
+def build_loop(copy):
+    """The program that loops over the message on its input."""
+    return build_measured(copy, "measure", ["read", "0"])
 
 
 def under(valgrind, program, words, given):

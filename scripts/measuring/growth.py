@@ -20,6 +20,7 @@ READ = [
     ("long names", 32, messages.plain),
     ("long names by pointer", 32, messages.pointed),
     ("short names", 32, messages.single),
+    ("pointers to each label of long names", 32, messages.into_labels),
 ]
 WRITTEN = [
     ("distinct owners", 8, messages.owners),
@@ -30,6 +31,7 @@ WRITTEN = [
     ("long names", 32, messages.plain),
     ("labels and pointers", 32, messages.chained),
     ("bare pointers", 32, messages.bare),
+    ("long names that differ in the last label", 32, messages.last_differs),
 ]
 
 # the other checkers, each by the words before the path of the text
@@ -105,10 +107,10 @@ def measure_updates(program):
     return right
 
 
-def commands(program, loop, path):
+def commands(program, parser, path):
     """The command of each checker that is there, and the text that it reads in place of a path."""
     yield "dnsmsg zone", [program, "zone", "-"], path
-    yield "Parser::parse", [loop, "parse", "1"], path
+    yield "Parser::parse", [parser], path
     for words in CHECKERS:
         if shutil.which(words[0]):
             yield words[0], [*words, path], None
@@ -116,10 +118,10 @@ def commands(program, loop, path):
             print(f"measure: {words[0]} is not installed", file=sys.stderr)
 
 
-def side_by_side(program, loop, folder):
+def side_by_side(program, parser, folder):
     """Prints the seconds of each checker, and their part of ours."""
     path = f"{folder}/zone"
-    checkers = list(commands(program, loop, path))
+    checkers = list(commands(program, parser, path))
     print("| Zone | " + " | ".join(name for name, *_ in checkers) + " |")
     print("|---" * (1 + len(checkers)) + "|", flush=True)
     for name, size, make in SIDE_BY_SIDE:
@@ -131,7 +133,7 @@ def side_by_side(program, loop, folder):
         print(f"| {name} | " + " | ".join(cells) + " |", flush=True)
 
 
-def measure(program, loop, folder, parts):
+def measure(program, loop, parser, folder, parts):
     """Prints these parts; answers 1 where a shape passes the goal."""
     right = True
     if set(parts) - {"checkers"}:
@@ -144,5 +146,5 @@ def measure(program, loop, folder, parts):
     if "updates" in parts:
         right = measure_updates(program) and right
     if "checkers" in parts:
-        side_by_side(program, loop, folder)
+        side_by_side(program, parser, folder)
     return 0 if right else 1

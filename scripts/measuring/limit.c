@@ -1,4 +1,4 @@
-/* What ../main.rt.txt does with a message, by the least that it takes: `limit read|write TIMES`.
+/* What measure.rt.txt does with a message, by the least that it takes: `limit read|write TIMES`.
  *
  * Reading notes offsets alone: of each label of each name, its pointers followed, and of each record's data. Writing
  * looks each name up from its last label to its first, in one table. Nothing is tested, so a message that isn't one

@@ -218,6 +218,26 @@ def pointed(size):
     return questions(size, lambda i, at: long if i == 0 else b"\xc0\x0c")
 
 
+def into_labels(size):
+    """Names of 127 labels of one byte, and in the last fifth of the message pointers alone, each to another label."""
+    long = b"\1\1" * 127 + b"\0"
+    each = len(long) + 4
+
+    def owner(i, at):
+        if at < size * 9 // 11:
+            owner.longs = i + 1
+            return long
+        number = i - owner.longs
+        return struct.pack(">H", 0xC000 + 12 + number // 127 * each + 2 * (number % 127))
+
+    return questions(size, owner)
+
+
+def last_differs(size):
+    """Names of 126 labels of one byte that differ in the last alone."""
+    return questions(size, lambda i, at: b"\1a" * 125 + bytes([1, i % 256]) + b"\0")
+
+
 def owners(size):
     """Names without shared ends."""
     return questions(size, lambda i, at: bytes([8]) + f"h{i:07}".encode() + bytes([8]) + f"e{i:07}".encode() + b"\0")
@@ -243,6 +263,7 @@ def chain_in_data(size):
 ORDINARY = [small_query, edns, answer_cname, answer30, referral, dnssec_answer, txt_heavy, update, many_questions]
 GROWING = [(chained, (16, 32, 64)), (chained_8_, (64,)), (chained_16_, (64,)), (bare, (16, 32, 64)), (plain, (16, 32, 64))]
 GROWING += [(single, (16, 32, 64)), (owners, (4, 8, 16)), (siblings, (4, 8, 16))]
+GROWING += [(into_labels, (64,)), (last_differs, (64,))]
 
 
 # a worst case for calls that know nothing of what was read before

@@ -1,4 +1,4 @@
-//! What ../main.rt.txt does with a message, done by trust-dns-proto: `trust_dns read|write|cut TIMES`.
+//! What ../measure.rt.txt does with a message, done by trust-dns-proto: `trust_dns read|write|cut TIMES`.
 use std::io::Read;
 use trust_dns_proto::error::ProtoResult;
 use trust_dns_proto::op::Message;
