@@ -63,7 +63,8 @@ enum fuzsbanel_refusal {
     FUZSBANEL_TYPE = 29,              /* a type that no update here is of: SOA, query and meta types, SIG, WKS, 0 */
     FUZSBANEL_NOT_SOA = 30,           /* a record that isn't the zone's SOA */
     FUZSBANEL_NOT_ON_WIRE = 31,       /* a name in data that is relative, which no message can have; an OPT record */
-    FUZSBANEL_TOO_LONG = 32           /* an update or question of more than 65,535 bytes */
+    FUZSBANEL_TOO_LONG = 32,          /* an update or question of more than 65,535 bytes */
+    FUZSBANEL_TWO_ANAMES = 33         /* an update that leaves an owner with two ANAME records, which zone text can't say */
 };
 
 /* ---- messages (RFC 1035, 4.1) */
@@ -206,11 +207,10 @@ int64_t fuzsbanel_zone(const uint8_t *origin, size_t origin_len, const uint8_t *
 /* Writes what the server of the zone `origin` makes of an update message and the zone's text: a line with its code, as
  * `NoError` or `YXRRSet`, and the zone then, as fuzsbanel_zone has it (RFC 2136, 3), which is the text of the next call.
  * Of any code but `NoError` the zone is as it was. An `$ORIGIN` of the text says how its names end, and never which zone
- * it is. Three things are the caller's: the SOA's serial stays as it was, since RFC 2136, 3.6 leaves it to the server when
- * it is raised; an update with a record of type SOA, or of another type that the updates below refuse with 29, is answered
- * `NotImp` as a whole; and of two ANAME records of an owner, which an update may leave, the next call reads the last.
- * Refuses with the update's first fault, with 26, as fuzsbanel_zone does, and with 25 for a zone of another class than
- * IN. */
+ * it is. Two things are the caller's: the SOA's serial stays as it was, since RFC 2136, 3.6 leaves it to the server when
+ * it is raised; and an update with a record of type SOA, or of another type that the updates below refuse with 29, is
+ * answered `NotImp` as a whole. Refuses with the update's first fault, with 26, as fuzsbanel_zone does, with 25 for a zone
+ * of another class than IN, and with 33. */
 int64_t fuzsbanel_apply(const uint8_t *update, size_t update_len, const uint8_t *origin, size_t origin_len,
                         const uint8_t *text, size_t text_len, uint8_t *out, size_t cap, size_t *needed);
 

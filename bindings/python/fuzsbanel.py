@@ -95,6 +95,7 @@ NAMES = {
     30: "a record that isn't the zone's SOA",
     31: "a name in data that is relative, which no message can have",
     32: "an update or question of more than 65,535 bytes",
+    33: "an update that leaves an owner with two ANAME records",
 }
 
 

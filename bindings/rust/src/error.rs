@@ -72,6 +72,7 @@ errors! {
     30 NotSoa "a record that isn't the zone's SOA",
     31 NotOnWire "a name in data that is relative, which no message can have",
     32 TooLong "an update or question of more than 65,535 bytes",
+    33 TwoAnames "an update that leaves an owner with two ANAME records",
 }
 
 impl std::error::Error for Error {}

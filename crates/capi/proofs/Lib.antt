@@ -1,4 +1,5 @@
 mod AnswerLemmas
+mod AppliedText
 mod MessageLemmas
 mod SentLemmas
 mod SoundLemmas

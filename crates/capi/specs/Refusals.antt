@@ -36,3 +36,7 @@ not_on_wire = 31
 -- the message has more than 65,535 bytes
 abbrev pub too_long : ℕ
 too_long = 32
+
+-- an owner is left with two ANAME records, which the text of a zone can't say
+abbrev pub two_anames : ℕ
+two_anames = 33

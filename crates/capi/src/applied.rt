@@ -1,20 +1,25 @@
 //! Updates applied to zone text (RFC 2136, 3).
 
-ghost use Rattle.std.specs.Prelude.{IfOk};
+ghost use Rattle.std.specs.BTreeMap.{IsOrdered};
+ghost use Rattle.std.specs.List.{list_any};
+ghost use Rattle.std.specs.Prelude.{IfOk, ◌≡◌};
+ghost use Rattle.base.specs.RrKey.{key_cmp};
+ghost use Rattle.base.specs.declared.rr_key.RrKey.{RrKey as Key};
 ghost use Rattle.op.specs.Message.{message_value};
 ghost use Rattle.op_use.specs.Server.{sections_of};
+ghost use Rattle.rr.specs.RecordSet.{SetValue};
 ghost use Rattle.txt.specs.ZoneSets.{AreKeyed};
 ghost use Rattle.capi.specs.Answer.{IsAnsweredBy, Makes, MakesBy};
-ghost use Rattle.capi.specs.Applied.{IsApplied, update_and_zone};
+ghost use Rattle.capi.specs.Applied.{IsApplied, are_anames, update_and_zone};
 
 use crate::answer::give;
 use crate::fits::fits_wire;
 use crate::message::message_of;
 use crate::refusal::Refusal;
 use crate::zone::{zone_name_of, zone_under};
-use base::{Name, RrKey};
+use base::{Name, RecordType, RrKey};
 use op::Message;
-use parsed_zone::lines_after;
+use parsed_zone::{sets_after, update_lines};
 use rr::RecordSet;
 use std::alloc::Global;
 use std::collections::BTreeMap;
@@ -26,8 +31,9 @@ use std::collections::BTreeMap;
 ///
 /// # Errors
 ///
-/// The number of the update's first fault; then 26 for an origin without bytes, those of `fuzsbanel_zone`, and 25 for a
-/// set or a record of another class than IN.
+/// The number of the update's first fault; then 26 for an origin without bytes, those of `fuzsbanel_zone`, 25 for a set
+/// or a record of another class than IN, and 33 for an update that leaves an owner with two ANAME records, of which zone
+/// text has the last alone.
 #[unsafe(no_mangle)]
 pub extern "C" fn fuzsbanel_apply(
     alloc: Global,
@@ -51,7 +57,26 @@ fn apply(alloc: Global, update: &[u8], origin: &[u8], text: &[u8]) -> Result<Vec
     if !fits_wire(&sets) {
         return Err(Refusal::NOT_ON_WIRE);
     }
-    Ok(lines_after(alloc, &message, &zone, &sets)?.into_bytes())
+    let (code, changed) = sets_after(alloc, &message, &zone, &sets)?;
+    if has_two_anames(&changed) {
+        return Err(Refusal::TWO_ANAMES);
+    }
+    Ok(update_lines(alloc, code, &zone, changed)?.into_bytes())
+}
+
+/// Whether an owner has two ANAME records, or more.
+fn has_two_anames(sets: &BTreeMap<RrKey, RecordSet>) -> bool
+    ensures found { result ≡ list_any
+        (λ (e : Key × SetValue). are_anames e.0 e.1.records) sets.now.entries }
+    // The sets stand in the order of their keys, each once.
+    ensures ordered { IsOrdered key_cmp sets.now }
+{
+    for (key, set) in sets {
+        if key.record_type == RecordType::ANAME && set.records_count() > 1 {
+            return true;
+        }
+    }
+    false
 }
 
 /// The update, and the zone of the origin with the sets of the text.

@@ -44,6 +44,9 @@ impl Refusal {
 
     /// The message has more than 65,535 bytes.
     pub const TOO_LONG: Refusal = Refusal { number: 32 };
+
+    /// An owner is left with two ANAME records, which the text of a zone can't say.
+    pub const TWO_ANAMES: Refusal = Refusal { number: 33 };
 }
 
 impl From<AllocError> for Refusal {

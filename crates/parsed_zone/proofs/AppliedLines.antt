@@ -1,5 +1,5 @@
 -- The lines of a map that an update was applied to.
-use Rattle.std.proofs.Common.{List, Ok, [], ap, refl, sym, true, ◌∷◌, ◌++◌, ◌≡◌, ◌∙◌, ℕ}
+use Rattle.std.proofs.Common.{Bool, List, Ok, [], ap, false, inl, inr, refl, sym, true, ◌∷◌, ◌++◌, ◌||◌, ◌≡◌, ◌⊎◌, ◌∙◌, ℕ}
 use Rattle.std.proofs.lemmas.Bool.{cond-false, cond-true}
 use Rattle.std.proofs.lemmas.List.{nil_from_length}
 use Rattle.std.proofs.lemmas.Map.Entries.{lookup_head}
@@ -9,7 +9,7 @@ use Rattle.std.specs.Cmp.{eq_by_cmp_equiv}
 use Rattle.std.specs.FinMap as fin
 use Rattle.std.specs.FinMap.Entries.{by_order}
 use Rattle.std.specs.List.Sorted.{IsStrictlySortedBy}
-use Rattle.std.specs.List.{AllByRecursion, flat_map}
+use Rattle.std.specs.List.{AllByRecursion, flat_map, list_any}
 use Rattle.std.specs.Map.{keys_of, lookup}
 use Rattle.std.specs.Ordering.{is_eq, ordering_reverse}
 use Rattle.std.specs.Prelude.{Some, map}
@@ -22,13 +22,18 @@ use Rattle.base.specs.declared.rr_key.RrKey.{RrKey}
 use Rattle.op.specs.MessageText.{line, record_lines}
 use Rattle.op.specs.ResponseCode.{code_name}
 use Rattle.op.specs.declared.response_code.ResponseCode.{ResponseCode}
-use Rattle.op_use.specs.Applying.{IsApplied, entry_of, records_in}
+use Rattle.op_use.specs.Applying.{IsApplied, applied, entry_of, records_in}
 use Rattle.op_use.specs.Server.{Sections}
 use Rattle.op_use.specs.Zone.{Datum, Zone}
+use Rattle.base_data.specs.declared.rdata.RData.{RData}
 use Rattle.rr.specs.RecordSet.{SetValue}
+use Rattle.rr.specs.declared.record.Record.{Record}
 use Rattle.txt.specs.ZoneSets.{ZoneSets}
 use Rattle.parsed_zone.specs.Classes.{are_sets_in}
-use Rattle.parsed_zone.specs.Applied.{applied_lines, code_word, lines_after, lines_under, update_lines}
+use Rattle.parsed_zone.specs.Applied.{applied_lines, code_word, lines_after, left_under, update_lines, zone_in}
+use Rattle.parsed_zone.specs.Faults.{HasFault, fault_named}
+use Rattle.parsed_zone.specs.declared.refusal.ZoneRefusal.{ZoneRefusal}
+use Rattle.parsed_zone.specs.declared.refusal.ZoneRefusal.TheVariants as refusals
 use Rattle.parsed_zone.specs.ZoneText.{origin_line, set_lines}
 
 -- ---- entries in the order of their keys
@@ -69,29 +74,54 @@ same_keys (e ∷ es) = ap (λ ks. e.0 ∷ ks) (same_keys es)
 keys_are : (es : ZoneSets) → IsStrictlySortedBy key_cmp (keys_of es) → fin.keys (fin.from_entries {R = key_cmp} (map entry_of es)) ≡ keys_of es
 keys_are es ordered = ap (map (λ (e : RrKey × List Datum). e.0)) (entries_are es ordered) ∙ same_keys es
 
--- ---- lines
+-- ---- what an update leaves under each key
 
-lines_by : (shown : RrKey → List ℕ) (es : ZoneSets) → AllByRecursion (λ (e : RrKey × SetValue). shown e.0 ≡ record_lines e.1.records) es
-    → flat_map shown (keys_of es) ≡ set_lines es
-lines_by shown [] each = refl
-lines_by shown (e ∷ es) each = λ i. each.0 i ++ lines_by shown es each.1 i
+-- what tests and lines look at under the keys of sets, where these are the records there
+any_by : (test : RrKey → List (Record RData) → Bool) (left : RrKey → List (Record RData)) (es : ZoneSets)
+    → AllByRecursion (λ (e : RrKey × SetValue). left e.0 ≡ e.1.records) es
+    → list_any (λ k. test k (left k)) (keys_of es) ≡ list_any (λ (e : RrKey × SetValue). test e.0 e.1.records) es
+any_by test left [] each = refl
+any_by test left (e ∷ es) each = λ i. test e.0 (each.0 i) || any_by test left es each.1 i
+
+lines_by : (left : RrKey → List (Record RData)) (es : ZoneSets) → AllByRecursion (λ (e : RrKey × SetValue). left e.0 ≡ e.1.records) es
+    → flat_map (λ k. record_lines (left k)) (keys_of es) ≡ set_lines es
+lines_by left [] each = refl
+lines_by left (e ∷ es) each = λ i. record_lines (each.0 i) ++ lines_by left es each.1 i
 
 module _ (name : NameValue) (m : Sections) (old new : BTreeMap RrKey SetValue) (code : ResponseCode) (ordered : tree.IsOrdered key_cmp new)
     (after : IsApplied name classes.IN m old code new) where
-  shown_each : (es : ZoneSets) → AllByRecursion (λ (e : RrKey × SetValue). tree.get key_cmp new e.0 ≡ Some e.1) es
-      → AllByRecursion (λ (e : RrKey × SetValue). lines_under m (name, old.entries) e.0 ≡ record_lines e.1.records) es
-  shown_each [] found = tt
-  shown_each (e ∷ es) found = (ap record_lines (sym (after.exact e.0) ∙ ap records_in found.0), shown_each es found.1)
+  left_each : (es : ZoneSets) → AllByRecursion (λ (e : RrKey × SetValue). tree.get key_cmp new e.0 ≡ Some e.1) es
+      → AllByRecursion (λ (e : RrKey × SetValue). left_under m (name, old.entries) e.0 ≡ e.1.records) es
+  left_each [] found = tt
+  left_each (e ∷ es) found = (sym (after.exact e.0) ∙ ap records_in found.0, left_each es found.1)
+
+  left_all : AllByRecursion (λ (e : RrKey × SetValue). left_under m (name, old.entries) e.0 ≡ e.1.records) new.entries
+  left_all = left_each new.entries (found_each new.entries ordered)
+
+  -- a test of what the update leaves is one of the map
+  pub any_left : (test : RrKey → List (Record RData) → Bool)
+      → list_any (λ k. test k (left_under m (name, old.entries) k)) (fin.keys (applied (zone_in (name, old.entries)) m).1.sets)
+      ≡ list_any (λ (e : RrKey × SetValue). test e.0 e.1.records) new.entries
+  any_left test =
+      ap (λ (outcome : ResponseCode × Zone). list_any (λ k. test k (left_under m (name, old.entries) k)) (fin.keys outcome.1.sets)) (sym after.served)
+      ∙ ap (list_any (λ k. test k (left_under m (name, old.entries) k))) (keys_are new.entries ordered)
+      ∙ any_by test (left_under m (name, old.entries)) new.entries left_all
 
   -- what is printed of the map is what the update leaves
   pub lines_applied : applied_lines m (name, old.entries) ≡ update_lines code (name, new.entries)
   lines_applied =
       ap (λ (outcome : ResponseCode × Zone). line (code_word (code_name outcome.0))
-      ++ (origin_line name ++ flat_map (lines_under m (name, old.entries)) (fin.keys outcome.1.sets))) (sym after.served)
+      ++ (origin_line name ++ flat_map (λ k. record_lines (left_under m (name, old.entries) k)) (fin.keys outcome.1.sets))) (sym after.served)
       ∙ ap (λ lines. line (code_word (code_name code)) ++ (origin_line name ++ lines))
-      (ap (flat_map (lines_under m (name, old.entries))) (keys_are new.entries ordered)
-      ∙ lines_by (lines_under m (name, old.entries)) new.entries (shown_each new.entries (found_each new.entries ordered)))
+      (ap (flat_map (λ k. record_lines (left_under m (name, old.entries) k))) (keys_are new.entries ordered)
+      ∙ lines_by (left_under m (name, old.entries)) new.entries left_all)
 
   -- and so the lines of the map answer the update
   pub lines_answered : (text : List ℕ) → are_sets_in old.entries ≡ true → text ≡ update_lines code (name, new.entries) → lines_after m (name, old.entries) ≡ Ok text
   lines_answered text all is = cond-true _ _ _ all ∙ ap Ok (lines_applied ∙ sym is)
+
+-- sets of another class refuse the update
+pub class_refused : (m : Sections) (zone : NameValue × ZoneSets) (e : ZoneRefusal)
+    → (e ≡ refusals.Memory) ⊎ ((e ≡ refusals.Class) × (are_sets_in zone.1 ≡ false)) → HasFault (fault_named e) (lines_after m zone)
+class_refused m zone e (inl memory) = rw memory tt
+class_refused m zone e (inr is) = rw is.0 (cond-false _ _ _ is.1)

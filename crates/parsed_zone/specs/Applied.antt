@@ -5,12 +5,14 @@ use Rattle.std.specs.Prelude.{Err, List, None, Ok, Option, Result, Some, [], if�
 use Rattle.base.specs.Labels.{NameValue}
 use Rattle.base.specs.declared.dns_class.DNSClass.TheVariants as classes
 use Rattle.base.specs.declared.rr_key.RrKey.{RrKey}
+use Rattle.base_data.specs.declared.rdata.RData.{RData}
 use Rattle.op.specs.MessageText.{line, record_lines}
 use Rattle.op.specs.ResponseCode.{code_name}
 use Rattle.op.specs.declared.response_code.ResponseCode.{ResponseCode}
 use Rattle.op_use.specs.Applying.{applied, records_applied, records_in, zone_of_sets}
 use Rattle.op_use.specs.Server.{Sections}
 use Rattle.op_use.specs.Zone.{Zone}
+use Rattle.rr.specs.declared.record.Record.{Record}
 use Rattle.txt.specs.ZoneSets.{ZoneSets, set_at}
 use Rattle.parsed_zone.specs.Classes.{are_sets_in}
 use Rattle.parsed_zone.specs.Faults.{ZoneFault, other_class}
@@ -29,17 +31,16 @@ update_lines code zone = line (code_word (code_name code)) ++ zone_lines zone
 abbrev pub zone_in : NameValue × ZoneSets → Zone
 zone_in zone = zone_of_sets zone.0 classes.IN zone.1
 
--- the records that an update leaves under a key, a line each
-abbrev pub lines_under : Sections → NameValue × ZoneSets → RrKey → List ℕ
-lines_under m zone k =
-    record_lines (records_applied (zone_in zone) m k (records_in (set_at zone.1 k)))
+-- the records that an update leaves under a key
+abbrev pub left_under : Sections → NameValue × ZoneSets → RrKey → List (Record RData)
+left_under m zone k = records_applied (zone_in zone) m k (records_in (set_at zone.1 k))
 
 -- the code, the origin, and the records that an update leaves, in the order of their keys
 abbrev pub applied_lines : Sections → NameValue × ZoneSets → List ℕ
 applied_lines m zone =
     let outcome = applied (zone_in zone) m in
     line (code_word (code_name outcome.0))
-    ++ (origin_line zone.0 ++ flat_map (lines_under m zone) (fin.keys outcome.1.sets))
+    ++ (origin_line zone.0 ++ flat_map (λ k. record_lines (left_under m zone k)) (fin.keys outcome.1.sets))
 
 -- the lines of what an update makes of a zone of the class IN
 abbrev pub lines_after : Sections → NameValue × ZoneSets → Result (List ℕ) ZoneFault

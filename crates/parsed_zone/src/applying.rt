@@ -1,12 +1,14 @@
 //! What an update makes of a zone, as text (RFC 2136, 3).
 
 ghost use Rattle.std.specs.BTreeMap.{IsOrdered};
-ghost use Rattle.std.specs.Prelude.{◌≡◌, IfOk};
+ghost use Rattle.std.specs.Prelude.{◌≡◌, ◌⊎◌, IfErr, IfOk, false, true};
 ghost use Rattle.std.specs.String.{string_bytes};
 ghost use Rattle.base.specs.RrKey.{key_cmp};
 ghost use Rattle.op.specs.Message.{message_value};
+ghost use Rattle.op_use.specs.Applying.{IsApplied};
 ghost use Rattle.op_use.specs.Server.{sections_of};
 ghost use Rattle.parsed_zone.specs.Applied.{lines_after, update_lines};
+ghost use Rattle.parsed_zone.specs.Classes.{are_sets_in};
 ghost use Rattle.parsed_zone.specs.Faults.{MakesOrRefuses};
 ghost use Rattle.parsed_zone.specs.ParsedZone.{MayBeUpdated};
 
@@ -20,6 +22,37 @@ use rr::RecordSet;
 use std::alloc::{AllocError, Global};
 use std::collections::BTreeMap;
 
+/// The code that a server answers an update with, and the sets of the zone then (RFC 2136, 3). With any code but NoError
+/// they are the same.
+///
+/// The sets are such as `zone_of_bytes` or an earlier update made them.
+///
+/// # Errors
+///
+/// `Class` for a set or a record of another class than IN, and `Memory`.
+pub fn sets_after(
+    alloc: Global,
+    message: &Message,
+    name: &Name,
+    sets: &BTreeMap<RrKey, RecordSet>,
+) -> Result<(ResponseCode, BTreeMap<RrKey, RecordSet>), ZoneRefusal>
+    requires { MayBeUpdated sets.now }
+    ensures applied { IfOk result (λ r. IsApplied name.now DNSClass.IN
+        (sections_of (message_value message.now)) sets.now r.0 r.1) }
+    ensures all { IfOk result (λ _. are_sets_in sets.now.entries ≡ true) }
+    ensures refused { IfErr result (λ e. (e ≡ ZoneRefusal.Memory)
+        ⊎ ((e ≡ ZoneRefusal.Class) × (are_sets_in sets.now.entries ≡ false))) }
+{
+    if !are_sets_in(sets) {
+        return Err(ZoneRefusal::Class);
+    }
+    match apply_update(alloc, sets, name, DNSClass::IN, message) {
+        Ok(after) => Ok(after),
+        // An update is refused for memory alone.
+        Err(_) => Err(ZoneRefusal::Memory),
+    }
+}
+
 /// The name of the code that a server answers an update with, on a line, and the lines of the zone then (RFC 2136, 3).
 /// With any code but NoError the zone is as it was.
 ///
@@ -27,7 +60,7 @@ use std::collections::BTreeMap;
 ///
 /// # Errors
 ///
-/// `Class` for a set or a record of another class than IN, and `Memory`.
+/// Those of `sets_after`.
 pub fn lines_after(
     alloc: Global,
     message: &Message,
@@ -39,18 +72,16 @@ pub fn lines_after(
         (lines_after (sections_of (message_value message.now)) (name.now, sets.now.entries))
         result }
 {
-    if !are_sets_in(sets) {
-        return Err(ZoneRefusal::Class);
-    }
-    // An update is refused for memory alone.
-    let Ok((code, changed)) = apply_update(alloc, sets, name, DNSClass::IN, message) else {
-        return Err(ZoneRefusal::Memory);
-    };
+    let (code, changed) = sets_after(alloc, message, name, sets)?;
     Ok(update_lines(alloc, code, name, changed)?)
 }
 
-/// The code and the zone.
-fn update_lines(
+/// The name of a code on a line, and the lines of a zone.
+///
+/// # Errors
+///
+/// If memory runs out.
+pub fn update_lines(
     alloc: Global,
     code: ResponseCode,
     name: &Name,

@@ -7,7 +7,7 @@ pub mod laws;
 pub mod refusal;
 pub mod zone_text;
 
-pub use applying::lines_after;
+pub use applying::{lines_after, sets_after, update_lines};
 pub use classes::are_sets_in;
 pub use refusal::ZoneRefusal;
 pub use zone_text::{

@@ -124,3 +124,25 @@ fn what_is_written_is_read_again(rt: HostRuntime) {
     let is_left = out.starts_with(&LINES[..left]);
     assert!(rt; len == left as i64 && is_left);
 }
+
+/// An update that adds an ANAME record.
+const ANAME_ADDED: &[u8] = b"\0\x01\x28\0\0\x01\0\0\0\x01\0\0\x07example\0\0\x06\0\x01\
+\xc0\x0c\xff\x19\0\x01\0\0\0\x3c\0\x03\x01c\0";
+
+/// Texts, what the update is answered of each, and the first byte of the answer then: beside another ANAME record it is
+/// refused, in the place of the same data or beside other types it goes in.
+const ANAMES: &[(&'static [u8], i64, u8)] = &[
+    (b"@ 60 ANAME b.", -33, 7),
+    (b"@ 60 ANAME C.", 49, b'N'),
+    (b"www 60 ANAME b.", 77, b'N'),
+];
+
+#[test]
+fn a_second_aname_is_refused(rt: HostRuntime) {
+    let mut needed = 0;
+    for &(text, answer, first) in ANAMES {
+        let mut out = [7; 128];
+        let len = fuzsbanel_apply(rt.alloc(), ANAME_ADDED, ORIGIN, text, &mut out, &mut needed);
+        assert!(rt; len == answer && out[0] == first);
+    }
+}
