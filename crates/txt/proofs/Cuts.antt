@@ -1,21 +1,13 @@
--- What has no place in an entry ends it.
-use Rattle.base.proofs.TokenLemmas.{symbols_are}
-use Rattle.base.proofs.Refusing.{Faults-through}
-use Rattle.std.proofs.Common.{◌≡◌, ℕ, List, [], ◌∷◌, refl, ap, ◌∙◌, Option, Some, None, Result, Ok, Err, false}
-use Rattle.std.specs.Prelude.{String}
-use Rattle.std.specs.declared.alloc.Global.{Global}
-use Rattle.std.specs.declared.vec.Vec.{Vec}
+-- What the lexer reads stood first among the tokens.
+use Rattle.std.proofs.Common.{◌≡◌, List, [], ◌∷◌, refl, ap, ◌∙◌, Option, Some, None, Result, Ok, Err, false}
 use Rattle.base.specs.Cuts.{AnswersNext, Faults, Stays}
 use Rattle.base.specs.TokenList.{Symbol, broken, followed, listing, symbol, symbol_of, symbols}
 use Rattle.base.specs.Tokens.{Next, Unread, next, value_of}
 use Rattle.base.specs.declared.error.parse_error.ParseError.{ParseError}
 use Rattle.base.specs.declared.error.parse_error.ParseError.TheVariants as refusals
 use Rattle.base.specs.declared.text.token.Token.{Token}
-use Rattle.base.specs.declared.text.token.Token.TheVariants as tokens
-use Rattle.txt.specs.Cutting.{ReadsSymbol, symbol_value}
-use Rattle.txt.specs.Entries.{Entry, Settings, faulty_entry, include_end, items_after, line_after, refused, untyped, with_item}
-use Rattle.txt.specs.declared.zone.entry.Symbol.{Symbol as CutSymbol}
-use Rattle.txt.specs.declared.zone.entry.Symbol.TheVariants as cuts
+use Rattle.base.proofs.Refusing.{Faults-through}
+use Rattle.base.proofs.TokenLemmas.{symbols_are}
 
 after-fault : symbols (record { text = []; at_line_start = false }) ≡ []
 unfolding symbols listing

@@ -1,11 +1,11 @@
-use Rattle.std.proofs.Common.{rules, ◌≡◌, [], ◌∷◌, ap, sym, ◌∙◌, length, reverse, arith, refl, Some, None, Ok}
+use Rattle.std.proofs.Common.{rules, ◌≡◌, [], ◌∷◌, ap, sym, ◌∙◌, length, reverse, arith, refl, Some, None}
 use Rattle.std.proofs.lemmas.Result.{err_from_is_err_and}
 use Rattle.std.proofs.lemmas.List.{reverse-append, length-reverse, nil_from_length}
 use Rattle.std.proofs.lemmas.Grind.{common_steps}
 use Rattle.std.specs.String.{string_bytes}
 use Rattle.base.specs.TokenList.{symbols}
 use Rattle.txt.specs.Parser.{texts_in}
-use Rattle.txt.specs.Zone.{max_depth, restored}
+use Rattle.txt.specs.Zone.{max_depth}
 use Rattle.txt.specs.declared.zone.texts.Frame.{Frame}
 use Rattle.base.proofs.Refusing.{Fails-through}
 use Rattle.txt.proofs.Stack.{remains_begins, remains_went, remains_none, remains_back, remains_fails, remains_deep, remains_missing, remains_opened, moved, work_went, work_back, work_opened}
