@@ -1,3 +1,4 @@
+pub mod BelowLemmas
 pub mod CharLemmas
 pub mod ClassTexts
 pub mod CompareLemmas
@@ -6,6 +7,7 @@ pub mod CopyLemmas
 pub mod Cutting
 pub mod EscapeLemmas
 pub mod FittingLemmas
+pub mod FrontLemmas
 pub mod Giving
 pub mod ItemLemmas
 pub mod KeyLemmas
@@ -37,5 +39,6 @@ pub mod TrackLemmas
 pub mod TtlLawLemmas
 pub mod TtlLemmas
 pub mod TypeTexts
+pub mod WildcardLemmas
 pub mod WrittenLemmas
 pub mod reading

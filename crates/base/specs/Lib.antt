@@ -16,6 +16,7 @@ pub mod NameOrderLaws
 pub mod NameText
 pub mod Names
 pub mod StoredLabels
+pub mod Parents
 pub mod ParseError
 pub mod Passing
 pub mod Pieces

@@ -1,9 +1,10 @@
 //! Domain names (RFC 1035, 3.1).
 
 ghost use Rattle.base.specs.declared.limits.TheConstants.{MAX_LABELS, MAX_NAME};
-ghost use Rattle.std.specs.Prelude.{◌≡◌, ◌+◌, ◌<◌, ◌≤◌, ◌↔◌, [], ◌∷◌, ◌++◌, true, length, IsTrue, IfSome, MatchOption, slice_get};
+ghost use Rattle.std.specs.Prelude.{◌≡◌, ◌+◌, ◌<◌, ◌≤◌, ◌↔◌, [], ◌∷◌, ◌++◌, true, length, IsTrue, IfOk, IfSome, IsOkUnless, MatchOption, slice_get};
 ghost use Rattle.std.specs.Option.{option_copied};
 ghost use Rattle.base.specs.Labels.{AreLabels, IsLabelRun, plain_len, wire_of, labels_of};
+ghost use Rattle.base.specs.Parents.{parent, wildcard_of};
 
 pub mod compare;
 pub mod display;
@@ -14,9 +15,13 @@ mod reading;
 pub mod round_trip;
 mod writing;
 
+use crate::error::ProtoError;
 use crate::labels::Labels;
 use std::alloc::{AllocError, Global};
 use std::marker::Model;
+
+/// The label `*` after its length: at the front of a name it makes a wildcard (RFC 4592, 2.1.1).
+const WILDCARD: &[u8; 2] = b"\x01*";
 
 /// A domain name: its labels, each of 1 to 63 bytes, and whether it is absolute (RFC 1035, 2.3.4 and 3.1).
 ///
@@ -113,6 +118,49 @@ impl Name {
             rest = tail;
         }
         None
+    }
+
+    /// The name without its first label, which it lies directly below (RFC 1034, 3.1); one without labels stays itself,
+    /// and so does the flag. Grows memory once, and not at all for a name whose labels take up to 29 bytes.
+    ///
+    /// # Errors
+    ///
+    /// `Memory` alone, if memory runs out.
+    pub fn base_name(&self) -> Result<Name, ProtoError>
+        ensures value { IfOk result (λ n. n ≡ parent self.now) }
+        ensures only { IsOkUnless result ProtoError.Memory }
+    {
+        let rest = match first_label(self.as_wire()) {
+            Some((_, rest)) => rest,
+            None => &[],
+        };
+        Ok(Name {
+            labels: Labels::from_slice(self.allocator(), rest, self.is_fqdn())?,
+        })
+    }
+
+    /// The name with an asterisk in the place of its first label (RFC 4592, 2.1.1); one without labels stays itself, and
+    /// so does the flag. Grows memory once, and not at all for a name whose labels take up to 29 bytes.
+    ///
+    /// # Errors
+    ///
+    /// `Memory` alone, if memory runs out.
+    pub fn into_wildcard(self) -> Result<Name, ProtoError>
+        ensures value { IfOk result (λ n. n ≡ wildcard_of self) }
+        ensures only { IsOkUnless result ProtoError.Memory }
+    {
+        let Some((_, rest)) = first_label(self.as_wire()) else {
+            return Ok(self.clone()?);
+        };
+        Ok(Name {
+            labels: Labels::from_front_and(
+                self.allocator(),
+                WILDCARD,
+                WILDCARD.len(),
+                rest,
+                self.is_fqdn(),
+            )?,
+        })
     }
 
     /// The labels from the left, each with its length before it, without a final zero byte.

@@ -13,15 +13,15 @@ mod KeySteps
 mod ListedSteps
 mod MapIsZone
 mod MapSteps
-mod MapZones
+pub mod MapZones
 mod Meaning
 mod MergeSteps
 mod Origins
-mod OwnerKeys
+pub mod OwnerKeys
 mod ServerRowsLemmas
 mod SpelledSteps
 mod LeftSets
-mod TypeSteps
+pub mod TypeSteps
 mod UpdateSteps
 mod WholeSteps
 mod ZoneSteps

@@ -98,7 +98,7 @@ any_insert p m k v = ap (λ es. list_any p (map (λ e. e.0) es)) (fin.entries-in
 no_entries : fin.entries (fin.empty {X = List Datum} {R = key_cmp}) ≡ []
 no_entries = nil_from_length _ (sym (fin.len-entries (fin.empty {X = List Datum} {R = key_cmp})) ∙ fin.len-empty key_cmp (List Datum))
 
-any_entries : (p : RrKey → Bool) (es : List (RrKey × SetValue)) → list_any p (fin.keys (fin.from_entries {R = key_cmp} (map entry_of es))) ≡ list_any p (keys_of es)
+pub any_entries : (p : RrKey → Bool) (es : List (RrKey × SetValue)) → list_any p (fin.keys (fin.from_entries {R = key_cmp} (map entry_of es))) ≡ list_any p (keys_of es)
 any_entries p [] = ap (λ es. list_any p (map (λ e. e.0) es)) no_entries
 any_entries p (e ∷ es) = any_insert p (fin.from_entries (map entry_of es)) e.0 (data_in_set e.1) ∙ ap (λ b. p e.0 || b) (any_entries p es)
 

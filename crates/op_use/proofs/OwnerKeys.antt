@@ -59,7 +59,7 @@ against owner k = lower_cmp (lowered owner) k.name
 abbrev pub is_from : NameValue → RrKey → Bool
 is_from owner k = range_contains key_cmp (Included (least owner)) Unbounded k
 
-from_is : (owner : NameValue) (k : RrKey) → is_from owner k ≡ is_le (against owner k)
+pub from_is : (owner : NameValue) (k : RrKey) → is_from owner k ≡ is_le (against owner k)
 from_is owner k = and-true (is_le (key_cmp (least owner) k)) ∙ by_name (against owner k) k.record_type
 
 owned_is : (owner : NameValue) (k : RrKey) → is_owned owner k ≡ is_eq (against owner k)

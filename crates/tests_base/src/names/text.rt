@@ -1,7 +1,7 @@
 //! Names in texts, and names compared.
 
 use super::{has_labels, name};
-use base::{LowerName, Name, ParseError, RecordType, RrKey};
+use base::{LowerName, Name, ParseError, ProtoError, RecordType, RrKey};
 use std::alloc::{AllocError, Global};
 use std::cmp::Ordering;
 use test_tools::forms::{has_text, is_copied};
@@ -164,6 +164,28 @@ enum Relation {
     Ordered(Ordering),
     /// The first is a zone of the second, or isn't.
     Zone(bool),
+    /// The second is the first without its first label.
+    Base,
+    /// The second is the first with an asterisk in the place of its first label.
+    Wildcard,
+}
+
+/// Whether this name was made, letter case and flag too.
+fn is_made(made: Result<Name, ProtoError>, wanted: &Name) -> bool {
+    let same = match &made {
+        Ok(name) => name.eq_case(wanted),
+        Err(_) => false,
+    };
+    drop(made);
+    same
+}
+
+/// Whether a copy of the first with an asterisk in the place of its first label is the second.
+fn is_wildcard(first: &Name, second: &Name) -> bool {
+    match first.clone() {
+        Ok(copy) => is_made(copy.into_wildcard(), second),
+        Err(_) => false,
+    }
 }
 
 /// Whether two names stand so to each other.
@@ -173,6 +195,8 @@ fn relate(first: &Name, second: &Name, relation: Relation) -> bool {
         Relation::Unequal => first != second,
         Relation::Ordered(wanted) => first.cmp(second) == wanted,
         Relation::Zone(wanted) => first.zone_of(second) == wanted,
+        Relation::Base => is_made(first.base_name(), second),
+        Relation::Wildcard => is_wildcard(first, second),
     }
 }
 
@@ -214,6 +238,27 @@ const RELATIONS: &[(&'static str, &'static str, Relation)] = &[
     ("b.com.", r"a\.b.com.", Relation::Zone(false)),
 ];
 
+/// The same of names that are made of others.
+const MADE: &[(&'static str, &'static str, Relation)] = &[
+    ("WWW.Example.com.", "Example.com.", Relation::Base),
+    ("www.A", "A", Relation::Base),
+    ("com.", ".", Relation::Base),
+    (".", ".", Relation::Base),
+    (
+        "a.thirty-letters-and-some-more-of-them.B.",
+        "thirty-letters-and-some-more-of-them.B.",
+        Relation::Base,
+    ),
+    ("WWW.Example.com.", "*.Example.com.", Relation::Wildcard),
+    ("www", "*", Relation::Wildcard),
+    (".", ".", Relation::Wildcard),
+    (
+        "a.thirty-letters-and-some-more-of-them.B.",
+        "*.thirty-letters-and-some-more-of-them.B.",
+        Relation::Wildcard,
+    ),
+];
+
 /// Relative names first; then the example of RFC 4034, 6.1.
 const ASCENDING: &[&'static str] = &[
     "a",
@@ -234,6 +279,14 @@ const ASCENDING: &[&'static str] = &[
     "*.z.example.",
     r"\200.z.example.",
 ];
+
+#[test]
+fn names_made_of_others(rt: HostRuntime) {
+    for &(one, other, relation) in MADE {
+        let do_stand = stand(rt.alloc(), one, other, relation);
+        assert!(rt; do_stand, "{one} {other}");
+    }
+}
 
 #[test]
 fn names_compared(rt: HostRuntime) {

@@ -1,0 +1,231 @@
+-- The ends of a name that lie below the origin, and the cuts there.
+use Rattle.authority.proofs.FirstKey.{is_false}
+use Rattle.authority.specs.Found.{IsCutSet}
+use Rattle.authority.specs.Lookup.{Cut, Finding, cut_else, cut_over, ends_below, has_servers, if_below, is_ds, name_with, way}
+use Rattle.base.proofs.BelowLemmas.{lies_in, lies_so}
+use Rattle.base.specs.Labels.{NameValue}
+use Rattle.base.specs.NameOrder.{folded, folded_labels, lowered, same_name}
+use Rattle.base.specs.NameOrderLaws.{same_by-is}
+use Rattle.base.specs.Parents.{is_below, is_within, parent}
+use Rattle.base.specs.RecordType.{same_type}
+use Rattle.base.specs.RrKey.{key_cmp, key_of}
+use Rattle.base.specs.declared.dns_class.DNSClass.{DNSClass}
+use Rattle.base.specs.declared.record_type.RecordType.TheVariants as types
+use Rattle.base.specs.declared.record_type.RecordType.{RecordType}
+use Rattle.base.specs.declared.rr_key.RrKey.{RrKey}
+use Rattle.op_use.proofs.MapZones.{set_at}
+use Rattle.op_use.specs.Applying.{zone_of_map}
+use Rattle.op_use.specs.Zone.{Zone}
+use Rattle.rr.specs.RecordSet.{SetValue}
+use Rattle.std.proofs.Common.{ap, arith, drop, length-append, refl, rules, subst, sym, ◌++◌, ◌+◌, ◌∙◌}
+use Rattle.std.proofs.lemmas.Bool.{false≢true}
+use Rattle.std.proofs.lemmas.List.Folds.{find-append}
+use Rattle.std.specs.BTreeMap as tree
+use Rattle.std.specs.BTreeMap.{BTreeMap}
+use Rattle.std.specs.Char.{to_ascii_lowercase}
+use Rattle.std.specs.Cmp.{first_so, second_so}
+use Rattle.std.specs.Borrow.{Bor}
+use Rattle.std.specs.List.{find}
+use Rattle.std.specs.Option.{option_copied, option_or}
+use Rattle.std.specs.Prelude.{Bool, List, None, Option, Some, [], cond, false, is_some, length, map, not, suc, true, ℕ, ◌&&◌, ◌<◌, ◌∷◌, ◌≡◌}
+
+-- the last of lists that are none together
+last_nil : (front labels : List (List ℕ)) → [] ≡ front ++ labels → labels ≡ []
+last_nil [] labels e = sym e
+last_nil (x ∷ front) labels e = cc
+
+-- a name that lies in another and isn't the same
+module _ (a : NameValue) (absolute : Bool) where
+  same_labels : (labels : List (List ℕ)) → is_below a (name_with absolute labels) ≡ true → a.absolute ≡ absolute
+      → folded_labels labels ≡ folded a → ⊥
+  same_labels labels h flag e =
+      false≢true (sym (ap not ((same_by-is folded (name_with absolute labels) a).1 (sym flag, e)))
+      ∙ second_so (is_within a (name_with absolute labels)) _ h)
+
+  -- what it is to have a first label, and to lie in a without it
+  pub record Starts (labels : List (List ℕ)) : Type 0 where
+    pub first : List ℕ
+    pub others : List (List ℕ)
+    pub is : labels ≡ first ∷ others
+    pub within : is_within a (name_with absolute (drop 1 labels)) ≡ true
+
+  starts_by : (label : List ℕ) (labels front : List (List ℕ))
+      → is_below a (name_with absolute (label ∷ labels)) ≡ true → a.absolute ≡ absolute
+      → folded_labels (label ∷ labels) ≡ front ++ folded a → Starts (label ∷ labels)
+  starts_by label labels [] h flag e = absurd (same_labels (label ∷ labels) h flag e)
+  starts_by label labels (x ∷ front) h flag e = record {
+    first = label;
+    others = labels;
+    is = refl;
+    within = lies_so a (lowered (name_with absolute labels)) (record {
+      flag = flag;
+      front = front;
+      labels = ap (λ
+          (xs : List (List ℕ)). drop 1 xs) e;
+    });
+  }
+
+  -- a name that lies below another has a first label, and without it lies in the other
+  pub starts : (labels : List (List ℕ)) → is_below a (name_with absolute labels) ≡ true → Starts labels
+  starts [] h =
+      let lies = lies_in a (lowered (name_with absolute [])) (first_so _ _ h) in
+      absurd (same_labels [] h lies.flag (sym (last_nil lies.front (folded a) lies.labels)))
+  starts (label ∷ labels) h =
+      let lies = lies_in a (lowered (name_with absolute (label ∷ labels))) (first_so _ _ h) in
+      starts_by label labels lies.front h lies.flag lies.labels
+
+  longer : (label : List ℕ) (labels front : List (List ℕ)) → folded_labels labels ≡ front ++ folded a
+      → folded_labels (label ∷ labels) ≡ folded a → ⊥
+  longer label labels front e f =
+      let one : suc (length (folded_labels labels)) ≡ length (folded a) = ap length f in
+      let two : length (folded_labels labels) ≡ length front + length (folded a) = ap length e
+      ∙ length-append front (folded a) in
+      omega arith
+
+  -- one label more lies below it too
+  pub below_more : (label : List ℕ) (labels : List (List ℕ)) → is_below a (name_with absolute labels) ≡ true
+      → is_below a (name_with absolute (label ∷ labels)) ≡ true
+  below_more label labels h =
+      let lies = lies_in a (lowered (name_with absolute labels)) (first_so _ _ h) in
+      let more : is_within a (name_with absolute (label ∷ labels)) ≡ true
+      = lies_so a (lowered (name_with absolute (label ∷ labels))) (record {
+        flag = lies.flag;
+        front = map to_ascii_lowercase label ∷ lies.front;
+        labels = ap (λ (xs : List (List ℕ)). map to_ascii_lowercase label ∷ xs) lies.labels;
+      }) in
+      ap (λ b. b && not (same_name (name_with absolute (label ∷ labels)) a)) more
+      ∙ ap not (is_false _ (λ t. longer label labels lies.front lies.labels ((same_by-is folded (name_with absolute
+      (label ∷ labels)) a).0 t).1))
+
+-- no end of a name that isn't below the origin is
+no_ends : (z : Zone) (absolute : Bool) (labels : List (List ℕ))
+    → is_below z.origin (name_with absolute labels) ≡ false → ends_below z absolute labels ≡ []
+no_ends z absolute [] h = refl
+no_ends z absolute (label ∷ labels) h =
+    let n : NameValue = name_with absolute (label ∷ labels) in
+    ap (λ xs. xs ++ if_below z n) (no_ends z absolute labels (is_false _ (λ t. false≢true (sym h
+    ∙ below_more z.origin absolute label labels t))))
+    ∙ ap (λ b. cond b (n ∷ []) []) h
+
+pub no_way : (z : Zone) (n : NameValue) → is_below z.origin n ≡ false → way z n ≡ []
+no_way z n h = no_ends z n.absolute n.labels h
+
+one_more : (z : Zone) (absolute : Bool) (labels : List (List ℕ)) → is_below z.origin (name_with absolute labels) ≡ true
+    → ends_below z absolute labels ≡ ends_below z absolute (drop 1 labels) ++ name_with absolute labels ∷ []
+one_more z absolute [] h = absurd (none (starts z.origin absolute [] h)) where
+  none : Starts z.origin absolute [] → ⊥
+  none s = absurd (nil s.first s.others s.is) where
+    nil : (x : List ℕ) (xs : List (List ℕ)) → [] ≡ x ∷ xs → ⊥
+    nil x xs e = cc
+one_more z absolute (label ∷ labels) h =
+    ap (λ b. ends_below z absolute labels ++ cond b (name_with absolute (label ∷ labels) ∷ []) []) h
+
+or_none : (o : Option NameValue) → option_or o None ≡ o
+or_none None = refl
+or_none (Some x) = refl
+
+or_or : (a b c : Option NameValue) → option_or (option_or a b) c ≡ option_or a (option_or b c)
+or_or None b c = refl
+or_or (Some x) b c = refl
+
+-- The highest cut on the way is the highest on the rest of it, or what was found so far.
+module _ (origin : NameValue) (m : BTreeMap RrKey SetValue) where
+  abbrev pub IsOnWay : NameValue → NameValue → Option SetValue → Type 0
+  IsOnWay n end o = (class : DNSClass) → (c : Option NameValue) × IsCutSet m c o
+      × (find (has_servers (zone_of_map origin class m)) (way (zone_of_map origin class m) n)
+      ≡ option_or (find (has_servers (zone_of_map origin class m)) (way (zone_of_map origin class m) end)) c)
+
+  pub way_begins : (n : NameValue) → IsOnWay n n None
+  way_begins n class = (
+    None,
+    refl,
+    sym (or_none (find (has_servers (zone_of_map origin class m)) (way
+        (zone_of_map origin class m) n))),
+  )
+
+  module _ (class : DNSClass) where
+    abbrev z : Zone
+    z = zone_of_map origin class m
+
+    abbrev cut_on : NameValue → Option NameValue
+    cut_on n = find (has_servers z) (way z n)
+
+    own_cut : (end : NameValue) → is_below origin end ≡ true
+        → cut_on end ≡ option_or (cut_on (parent end)) (cond (has_servers z end) (Some end) None)
+    own_cut end h =
+        ap (find (has_servers z)) (one_more z end.absolute end.labels h)
+        ∙ find-append (has_servers z) (way z (parent end)) (end ∷ [])
+
+    next : (n end : NameValue) (o : Option SetValue) → is_below origin end ≡ true → (c : Option NameValue)
+        → IsCutSet m c o → cut_on n ≡ option_or (cut_on end) c
+        → (g : Option SetValue) → tree.get key_cmp m (key_of end types.NS) ≡ g
+        → (d : Option NameValue) × IsCutSet m d (option_or g o) × (cut_on n ≡ option_or (cut_on (parent end)) d)
+    next n end o h c held e None g = (
+      c,
+      held,
+      e ∙ ap (λ x. option_or x c) (own_cut end h
+          ∙ ap (λ b. option_or (cut_on (parent end)) (cond b (Some end) None)) (set_at origin class m
+          (key_of end types.NS) ∙ ap is_some g) ∙ or_none (cut_on (parent end))),
+    )
+    next n end o h c held e (Some s) g = (
+      Some end,
+      (s, refl, g),
+      e ∙ ap (λ x. option_or x c) (own_cut end h
+          ∙ ap (λ b. option_or (cut_on (parent end)) (cond b (Some end) None)) (set_at origin class m
+          (key_of end types.NS) ∙ ap is_some g)) ∙ or_or (cut_on (parent end)) (Some end) c,
+    )
+
+  pub way_goes_on : (n end : NameValue) (o g : Option SetValue) → is_below origin end ≡ true
+      → tree.get key_cmp m (key_of end types.NS) ≡ g → IsOnWay n end o
+      → IsOnWay n (parent end) (option_or g o)
+  way_goes_on n end o g h there on class =
+      let so_far = on class in
+      next class n end o h so_far.0 so_far.1 so_far.2 g there
+
+  pub way_ends : (n end : NameValue) (o : Option SetValue) → is_below origin end ≡ false → IsOnWay n end o
+      → (class : DNSClass) → IsCutSet m (find (has_servers (zone_of_map origin class m)) (way
+      (zone_of_map origin class m) n)) o
+  way_ends n end o h on class =
+      let so_far = on class in
+      subst (λ c. IsCutSet m c o)
+      (sym (so_far.2 ∙ ap (λ ns. option_or (find (has_servers (zone_of_map origin class m)) ns) so_far.0) (no_way
+      (zone_of_map origin class m) end h))) so_far.1
+
+pub copied_or : {X : Type 0} (a b : Option (Bor X))
+    → option_copied (option_or a b) ≡ option_or (option_copied a) (option_copied b)
+copied_or None b = refl
+copied_or (Some x) b = refl
+
+suc_less : (labels others : List (List ℕ)) (first : List ℕ) → labels ≡ first ∷ others
+    → length (drop 1 labels) < length labels
+suc_less labels others first e = subst (λ (xs : List (List ℕ)). length (drop 1 xs) < length xs) (sym e) (omega arith)
+
+-- each end is shorter than the one before
+pub shorter : (a n : NameValue) → is_below a n ≡ true → length (parent n).labels < length n.labels
+shorter a n h =
+    let s = starts a n.absolute n.labels h in
+    suc_less n.labels s.others s.first s.is
+
+pub ds_is : (t : RecordType) → is_ds t ≡ same_type t types.DS
+ds_is = search rules
+
+-- the way that is asked for cuts
+pub cut_beside : (z : Zone) (t : RecordType) (n side : NameValue) (b : Bool) → is_ds t ≡ b
+    → side ≡ cond b (parent n) n → cut_over z t n ≡ find (has_servers z) (way z side)
+cut_beside z t n side b d e = ap (λ (x : NameValue). find (has_servers z) (way z x)) (ap (λ c. cond c
+    (parent n) n) d ∙ sym e)
+
+-- what it is that a cut was found, or none
+pub cut_found : (m : BTreeMap RrKey SetValue) (c : Option NameValue) (s : SetValue) (f : Finding)
+    → IsCutSet m c (Some s)
+    → (x : NameValue) × (cut_else c f ≡ Cut x) × (tree.get key_cmp m (key_of x types.NS) ≡ Some s)
+cut_found m None s f h = absurd (no h) where
+  no : Some s ≡ None → ⊥
+  no e = cc
+cut_found m (Some x) s f h = (x, refl, h.2 ∙ sym h.1)
+
+pub no_cut : (m : BTreeMap RrKey SetValue) (c : Option NameValue) (f : Finding) → IsCutSet m c None → cut_else c f ≡ f
+no_cut m None f h = refl
+no_cut m (Some x) f h = absurd (no h.0 h.1) where
+  no : (s : SetValue) → None ≡ Some s → ⊥
+  no s e = cc

@@ -1,0 +1,48 @@
+-- What `lookup` answers, as what the zone has.
+use Rattle.authority.specs.Lookup.{Alias, Cut, Data, Finding, NoName, Outside, alias_in, records_of}
+use Rattle.authority.specs.declared.found.Found.TheVariants as codes
+use Rattle.authority.specs.declared.found.Found.{Found}
+use Rattle.base.specs.Labels.{NameValue}
+use Rattle.base.specs.RrKey.{key_cmp, key_of}
+use Rattle.base.specs.declared.dns_class.DNSClass.{DNSClass}
+use Rattle.base.specs.declared.record_type.RecordType.TheVariants as types
+use Rattle.base.specs.declared.rr_key.RrKey.{RrKey}
+use Rattle.base_data.specs.declared.rdata.RData.{RData}
+use Rattle.op_use.specs.Applying.{data_in_set}
+use Rattle.rr.specs.RecordSet.{SetValue}
+use Rattle.rr.specs.declared.record.Record.{Record}
+use Rattle.std.specs.BTreeMap as tree
+use Rattle.std.specs.BTreeMap.{BTreeMap}
+use Rattle.std.specs.Borrow.{Bor}
+use Rattle.std.specs.List.{flat_map}
+use Rattle.std.specs.Prelude.{List, None, Option, Some, [], ◌≡◌}
+
+-- the records that are answered of a set, whose owner is the name as it was asked
+abbrev pub answered : DNSClass → NameValue → SetValue → List (Record RData)
+answered class owner s = records_of class owner (data_in_set s)
+
+-- the set of name servers at a cut, if there is a cut
+abbrev pub IsCutSet : BTreeMap RrKey SetValue → Option NameValue → Option SetValue → Type 0
+IsCutSet sets None o = o ≡ None
+IsCutSet sets (Some m) o = (s : SetValue) × (o ≡ Some s)
+    × (tree.get key_cmp sets (key_of m types.NS) ≡ Some s)
+
+-- The set of an alias and the name that it leads to are those of the alias that the zone has, if it has one.
+abbrev pub IsAlias : DNSClass → NameValue → Option (Bor SetValue × Bor NameValue)
+    → Option (Record RData × NameValue) → Type 0
+IsAlias class n None a = a ≡ None
+IsAlias class n (Some found) a = (r : Record RData) × (a ≡ Some (r, found.1.now))
+    × (alias_in (answered class n found.0.now) ≡ Some (r, found.1.now))
+
+-- What was found for a name in the sets of a zone of a class is what the zone has.
+abbrev pub IsFound : DNSClass → BTreeMap RrKey SetValue → NameValue → Found → Finding → Type 0
+IsFound class sets n codes.Outside f = f ≡ Outside
+IsFound class sets n codes.NoName f = f ≡ NoName
+IsFound class sets n codes.NoData f = f ≡ Data []
+IsFound class sets n (codes.Cut s) f = (m : NameValue) × (f ≡ Cut m)
+    × (tree.get key_cmp sets (key_of m types.NS) ≡ Some s.now)
+IsFound class sets n (codes.Alias s target) f = (r : Record RData) × (f ≡ Alias r target.now)
+    × (alias_in (answered class n s.now) ≡ Some (r, target.now))
+IsFound class sets n (codes.Data s) f = f ≡ Data (answered class n s.now)
+IsFound class sets n (codes.All found) f = f
+    ≡ Data (flat_map (λ s. answered class n s.now) found.items)
