@@ -1,3 +1,3 @@
-mod AppliedLines
+pub mod AppliedLines
 pub mod TextLemmas
 pub mod ZoneMaps
