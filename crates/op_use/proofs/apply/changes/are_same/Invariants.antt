@@ -1,4 +1,4 @@
-use Rattle.op_use.proofs.apply.kept.are_same.Given as goal
+use Rattle.op_use.proofs.apply.changes.are_same.Given as goal
 use Rattle.std.proofs.Common.{length, take, ◌≡◌}
 
 -- those so far are the same

@@ -1,4 +1,4 @@
-use Rattle.op_use.proofs.apply.changing_zone.renew.Goals as goal
+use Rattle.op_use.proofs.apply.current_set.renew.Goals as goal
 use Rattle.rr.proofs.SetSteps.{same_clone}
 use Rattle.rr.specs.SetChanges.{joined}
 use Rattle.rr.specs.SetUpdates.{with_records}
