@@ -2,6 +2,7 @@
 use Rattle.base.specs.RrKey.{key_cmp}
 use Rattle.base.specs.declared.dns_class.DNSClass.{DNSClass}
 use Rattle.base.specs.declared.rr_key.RrKey.{RrKey}
+use Rattle.base_data.specs.SameData.{same_data}
 use Rattle.base_data.specs.declared.rdata.RData.{RData}
 use Rattle.op_use.proofs.AppliedData.{distinct_joined}
 use Rattle.op_use.proofs.HeldSteps.{put_back}
@@ -23,8 +24,8 @@ use Rattle.std.proofs.lemmas.Option.{same_Some}
 use Rattle.std.specs.BTreeMap as tree
 use Rattle.std.specs.BTreeMap.{BTreeMap}
 use Rattle.std.specs.List.{IsDistinct, filter, list_any}
-use Rattle.std.specs.Ordering.{eq_by_cmp}
-use Rattle.std.specs.Prelude.{Bool, List, None, Option, Some, [], cond, false, true, ◌&&◌, ◌++◌, ◌||◌, ◌∷◌, ◌≡◌, ◌≢◌}
+use Rattle.std.specs.Ordering.{eq_by_cmp, on}
+use Rattle.std.specs.Prelude.{Bool, IfSome, List, None, Option, Some, [], cond, false, true, ◌&&◌, ◌++◌, ◌||◌, ◌∷◌, ◌≡◌, ◌≢◌}
 
 abbrev pub Sets : Type 0
 Sets = BTreeMap RrKey SetValue
@@ -48,6 +49,12 @@ joined_some r (x ∷ xs) e = absurd cc
 pub joined_fits : (class : DNSClass) (k : RrKey) (r : Record RData) (s t : SetValue) → IsZoneSet class k s → t ≡ with_records s (joined r s.records) → IsZoneSet class k t
 joined_fits class k r s t h is = subst (λ x. IsZoneSet class k x) (sym is)
     (record { own_key = h.own_key; own_class = h.own_class; filled = joined_some r s.records; distinct = distinct_joined r s.records h.distinct })
+
+-- no two records of a set that may be there have equal data
+pub distinct_there : (class : DNSClass) (k : RrKey) (m : Sets) (o : Option SetValue) → IsZoneMap class m → o ≡ tree.get key_cmp m k
+    → IfSome o (λ (s : SetValue). IsDistinct (on (λ (r : Record RData). r.rdata) same_data) s.records)
+distinct_there class k m (Some s) h e = (h k s (sym e)).distinct
+distinct_there class k m None h e = tt
 
 -- the set of a key with a record
 fits_begun : (class : DNSClass) (r : Record RData) → IsZoneSet class (record_key r) (renewed_set class r None)

@@ -17,15 +17,15 @@ use Rattle.op_use.specs.declared.apply.outcome.Outcome.{Outcome}
 use Rattle.rr.specs.Record.{record_key}
 use Rattle.rr.specs.RecordSet.{SetValue}
 use Rattle.rr.specs.declared.record.Record.{Record}
-use Rattle.std.proofs.Common.{ap, inl, inr, refl, subst, sym, ◌∙◌, ◌⊎◌}
-use Rattle.std.proofs.Math.Bool.{or-false}
+use Rattle.std.proofs.Common.{ap, arith, inl, inr, refl, subst, sym, ◌∙◌, ◌⊎◌}
+use Rattle.std.proofs.Math.Bool.{and-false, or-false}
 use Rattle.std.proofs.lemmas.Bool.{or_parts, true≢false}
 use Rattle.std.proofs.lemmas.List.Folds.{list_any-append}
 use Rattle.std.specs.BTreeMap as tree
 use Rattle.std.specs.BTreeMap.{BTreeMap}
 use Rattle.std.specs.List.{filter, list_any}
 use Rattle.std.specs.Ordering.{eq_by_cmp}
-use Rattle.std.specs.Prelude.{Bool, List, None, Option, Some, [], cond, false, is_some, not, true, unwrap_or, ◌&&◌, ◌++◌, ◌||◌, ◌∷◌, ◌≡◌, ◌≢◌}
+use Rattle.std.specs.Prelude.{Bool, List, None, Option, Some, [], cond, false, is_some, length, not, true, unwrap_or, ◌&&◌, ◌++◌, ◌<◌, ◌||◌, ◌∷◌, ◌≡◌, ◌≢◌}
 
 abbrev Map : Type 0
 Map = BTreeMap RrKey SetValue
@@ -94,6 +94,9 @@ pub gone_more : (k q : RrKey) (a b : Bool) (o : Option SetValue) (w : Option (Op
     → cond b (Some None) w ≡ cond ((a || b) && not (is_some o)) (Some None) None
 gone_more k q a true o w e none h = ap (λ c. cond (not c) (Some None) None) (sym (none refl)) ∙ ap (λ c. cond (c && not (is_some o)) (Some None) None) (sym (or_right a))
 gone_more k q a false o w e none h = h ∙ ap (λ c. cond (c && not (is_some o)) (Some None) None) (sym (or-false a))
+
+pub gone_free : (a : Bool) (o : Option SetValue) (w : Option (Option SetValue)) → w ≡ cond (a && not (is_some o)) (Some None) None → is_some o ≡ true → w ≡ None
+gone_free a o w h e = h ∙ ap (λ b. cond (a && not b) (Some None) None) e ∙ ap (λ b. cond b (Some None) None) (and-false a)
 
 -- ---- the sets that updates name
 
@@ -184,6 +187,20 @@ changed_step k w from less m n there out puts q = (λ i. unwrap_or (out q i) (pu
   by : (b : Bool) → eq_by_cmp key_cmp k q ≡ b → unwrap_or (cond b None (tree.get key_cmp from q)) (cond b w (tree.get key_cmp m q)) ≡ unwrap_or (tree.get key_cmp from q) (tree.get key_cmp m q)
   by true e = sym (ap (λ o. unwrap_or o (tree.get key_cmp m q)) (here k w from less there out q e))
   by false e = refl
+
+pub others_step : {X : Type 0} (k q : RrKey) (s : SetValue) (m n : Map) (all : BTreeMap RrKey X) → Sets k (Some s) m n → is_some (tree.get key_cmp all k) ≡ true
+    → is_some (tree.get key_cmp all q) ≡ false → tree.get key_cmp n q ≡ tree.get key_cmp m q
+others_step k q s m n all puts some none = puts q ∙ by (eq_by_cmp key_cmp k q) refl where
+  by : (b : Bool) → eq_by_cmp key_cmp k q ≡ b → cond b (Some s) (tree.get key_cmp m q) ≡ tree.get key_cmp m q
+  by true e = absurd (true≢false (sym some ∙ ap (λ x. is_some (tree.get key_cmp all x)) (same_key k q e) ∙ none))
+  by false e = refl
+
+pub none_more : {X : Type 0} (xs : List X) → (0 < length xs → false ≡ true) → xs ≡ []
+none_more [] h = refl
+none_more (x ∷ xs) h = absurd (true≢false (sym (h (omega arith))))
+
+pub still_there : (k q : RrKey) (w : Option SetValue) (m n : Map) → Sets k w m n → eq_by_cmp key_cmp k q ≡ false → is_some (tree.get key_cmp m q) ≡ true → is_some (tree.get key_cmp n q) ≡ true
+still_there k q w m n puts e some = ap is_some (puts q ∙ ap (λ b. cond b w (tree.get key_cmp m q)) e) ∙ some
 
 -- the sets that were added are taken out again
 pub all_out : (q : RrKey) (ks : List RrKey) (added m mid n : Map) → has_key q ks ≡ is_some (tree.get key_cmp added q)

@@ -90,7 +90,8 @@ pub fn update_in_place(
     ensures refused { OnErr result (HasSameSets sets.old sets.new) }
     ensures only { IsOkUnless result ProtoError.Memory }
 {
-    match find_answer(alloc, sets, origin, class, message)? {
+    let answer = find_answer(alloc, sets, origin, class, message)?;
+    match answer {
         Answer::Refused(code) => Ok(code),
         Answer::Done(outcome) => {
             outcome.install(alloc, sets)?;

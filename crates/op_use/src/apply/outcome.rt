@@ -53,10 +53,10 @@ fn add_all(
 {
     let keys = copies_of_keys(alloc, &added)?;
     while let Some((key, set)) = added.pop_first() {
-        if sets.insert(key, set).is_err() {
+        let Ok(_) = sets.insert(key, set) else {
             remove_all(sets, keys.as_slice());
             return Err(AllocError);
-        }
+        };
     }
     Ok(())
 }

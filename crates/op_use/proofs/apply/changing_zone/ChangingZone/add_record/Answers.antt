@@ -1,4 +1,4 @@
-use Rattle.op_use.proofs.ChangingSteps.{held_as, map_renewed, set_renewed}
+use Rattle.op_use.proofs.ChangingSteps.{distinct_there, held_as, map_renewed, set_renewed}
 use Rattle.op_use.proofs.HeldSteps.{removed_map}
 use Rattle.op_use.proofs.WholeSteps.{map_copy}
 use Rattle.op_use.proofs.apply.changing_zone.ChangingZone.add_record.Goals as goal
@@ -7,6 +7,9 @@ use Rattle.op_use.specs.HeldZone.{HeldZone}
 use Rattle.rr.specs.Record.{record_key}
 use Rattle.rr.specs.SetChanges.{joined}
 use Rattle.std.proofs.Common.{ap, sym, ◌∙◌}
+
+pub renewed-requires : goal.renewed-requires
+renewed-requires c = distinct_there c.self.inside.class c.args.key c.self.inside.sets c.remove.result c.self.invariant c.remove.ensures.value
 
 pub invariant_of-self : goal.invariant_of-self
 invariant_of-self c =

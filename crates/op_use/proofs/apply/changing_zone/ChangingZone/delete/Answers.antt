@@ -19,15 +19,15 @@ use Rattle.std.specs.BTreeMap.{get, keys}
 use Rattle.std.specs.List.{list_any}
 use Rattle.std.specs.Ordering.{eq_by_cmp}
 
-pub returns-then-is_guarded : goal.returns-then-is_guarded
-returns-then-is_guarded c =
+pub returns-then-is_guarded-2 : goal.returns-then-is_guarded-2
+returns-then-is_guarded-2 c =
     let z = c.args.self.now in
     let of_type = type_of_record c.args.entry.now in
     same_updated (c.args.entry.now ∷ []) z (λ h.
     after_guarded z.origin z.class z.sets z.sets c.args.entry.now h c.requires
     (ap is_any (sym c.record_type.ensures) ∙ any_is c.record_type.result ∙ sym c.eq.ensures ∙ c.if-eq.false)
     (ap (λ (y : HeldZone). same_name c.args.entry.now.name y.origin && (is_soa of_type || is_ns of_type)) (sym c.self-2.view_is)
-    ∙ ap (λ t. same_name c.args.entry.now.name c.self-2.inside.origin.now && (is_soa t || is_ns t)) (sym c.record_type-2.ensures) ∙ sym c.is_guarded.ensures ∙ c.if-is_guarded.true))
+    ∙ ap (λ t. same_name c.args.entry.now.name c.self-2.inside.origin.now && (is_soa t || is_ns t)) (sym c.record_type-2.ensures) ∙ sym c.is_guarded-2.ensures ∙ c.if-is_guarded-2.true))
 
 pub returns : goal.returns
 returns c =
@@ -40,7 +40,7 @@ returns c =
     after_set z.origin z.class z.sets n c.args.entry.now h c.requires
     (ap is_any (sym c.record_type.ensures) ∙ any_is c.record_type.result ∙ sym c.eq.ensures ∙ c.if-eq.false)
     (ap (λ (y : HeldZone). same_name c.args.entry.now.name y.origin && (is_soa of_type || is_ns of_type)) (sym c.self-2.view_is)
-    ∙ ap (λ t. same_name c.args.entry.now.name c.self-2.inside.origin.now && (is_soa t || is_ns t)) (sym c.record_type-2.ensures) ∙ sym c.is_guarded.ensures ∙ c.if-is_guarded.false)
+    ∙ ap (λ t. same_name c.args.entry.now.name c.self-2.inside.origin.now && (is_soa t || is_ns t)) (sym c.record_type-2.ensures) ∙ sym c.is_guarded-2.ensures ∙ c.if-is_guarded-2.false)
     put)
 
 pub loop-key-init : goal.loop-key-init
@@ -57,8 +57,8 @@ loop-key-preserved c =
     take_more ks i c.key-item.result c.loop-key-test.true ∙ ap (λ (x : RrKey). take i ks ++ x ∷ []) (sym c.key-item.is) in
     subst (λ ys. LacksAll (filter free ys) z c.remove.new.self) (sym grown)
     (free_more free c.key-item.result (take i ks) z c.loop-key.self c.remove.new.self
-    (ap not (ap (λ (y : HeldZone). same_name owner y.origin && (is_soa c.key-item.result.record_type || is_ns c.key-item.result.record_type)) (sym (c.loop-key.invariant.1) ∙ sym c.self-2.view_is)
-    ∙ sym c.is_guarded.ensures ∙ c.if-is_guarded-2.false))
+    (ap not (ap (λ (y : HeldZone). same_name owner y.origin && (is_soa c.key-item.result.record_type || is_ns c.key-item.result.record_type)) (sym (c.loop-key.invariant.1) ∙ sym c.self-in-loop-key.view_is)
+    ∙ sym c.is_guarded.ensures ∙ c.if-is_guarded.false))
     c.loop-key.invariant c.remove.ensures)
 
 pub loop-key-preserved-then-is_guarded : goal.loop-key-preserved-then-is_guarded
@@ -72,8 +72,8 @@ loop-key-preserved-then-is_guarded c =
     take_more ks i c.key-item.result c.loop-key-test.true ∙ ap (λ (x : RrKey). take i ks ++ x ∷ []) (sym c.key-item.is) in
     subst (λ ys. LacksAll (filter free ys) z c.loop-key.self) (sym grown)
     (free_none free c.key-item.result (take i ks) z c.loop-key.self c.loop-key.self
-    (ap not (ap (λ (y : HeldZone). same_name owner y.origin && (is_soa c.key-item.result.record_type || is_ns c.key-item.result.record_type)) (sym (c.loop-key.invariant.1) ∙ sym c.self-2.view_is)
-    ∙ sym c.is_guarded.ensures ∙ c.if-is_guarded-2.true))
+    (ap not (ap (λ (y : HeldZone). same_name owner y.origin && (is_soa c.key-item.result.record_type || is_ns c.key-item.result.record_type)) (sym (c.loop-key.invariant.1) ∙ sym c.self-in-loop-key.view_is)
+    ∙ sym c.is_guarded.ensures ∙ c.if-is_guarded.true))
     c.loop-key.invariant)
 
 pub returns-then-eq : goal.returns-then-eq

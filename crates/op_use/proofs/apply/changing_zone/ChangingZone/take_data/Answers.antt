@@ -11,8 +11,8 @@ use Rattle.rr.specs.SetUpdates.{without}
 use Rattle.std.proofs.Common.{Some, [], ap, length, refl, sym, ◌∙◌, ◌∷◌, ◌≡◌}
 use Rattle.std.proofs.lemmas.List.{nil_from_length}
 
-pub invariant_of-self-in_default : goal.invariant_of-self-in_default
-invariant_of-self-in_default c =
+pub invariant_of-self-in_err-set : goal.invariant_of-self-in_err-set
+invariant_of-self-in_err-set c =
     let i = c.self.inside in
     removed_map i.class c.in_ok-key.key i.sets c.remove.new.self c.self.invariant c.remove.ensures.updates.0
 
