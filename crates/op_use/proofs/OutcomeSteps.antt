@@ -120,16 +120,16 @@ module _ (origin : NameValue) (class : DNSClass) (rs : List (Record RData)) (m p
   exact_by q false e = ap records_in (now_there q e) ∙ sym (records_stay rs (zone_of_map origin class m) q (records_at m q) e)
 
   unnamed_by : (q : RrKey) → names_set rs q ≡ false → (b : Bool) → names_owner rs q ≡ b → (current q ≡ tree.get key_cmp m q) ⊎ (current q ≡ None)
-  unnamed_by q no true e = from (after.unnamed q no) where
+  unnamed_by q free true e = from (after.unnamed q free) where
     from : (tree.get key_cmp now q ≡ tree.get key_cmp part q) ⊎ (tree.get key_cmp now q ≡ None) → (current q ≡ tree.get key_cmp m q) ⊎ (current q ≡ None)
     from (inl h) = inl (now_here q e ∙ h ∙ part_here q e)
     from (inr h) = inr (now_here q e ∙ h)
-  unnamed_by q no false e = inl (now_there q e)
+  unnamed_by q free false e = inl (now_there q e)
 
   unnamed_new : (q : RrKey) → names_set rs q ≡ false → IsSettled (tree.get key_cmp m q) (current q) (tree.get key_cmp n q)
       → (tree.get key_cmp n q ≡ tree.get key_cmp m q) ⊎ (tree.get key_cmp n q ≡ None)
-  unnamed_new q no (inl h) = inl h.0
-  unnamed_new q no (inr h) = subst (λ o. (o ≡ tree.get key_cmp m q) ⊎ (o ≡ None)) (sym h.0) (unnamed_by q no (names_owner rs q) refl)
+  unnamed_new q free (inl h) = inl h.0
+  unnamed_new q free (inr h) = subst (λ o. (o ≡ tree.get key_cmp m q) ⊎ (o ≡ None)) (sym h.0) (unnamed_by q free (names_owner rs q) refl)
 
   pub whole_after : IsAfter origin class rs m n
   whole_after =
@@ -141,7 +141,7 @@ module _ (origin : NameValue) (class : DNSClass) (rs : List (Record RData)) (m p
         taken = λ q v a. taken_by q v (names_owner rs q) refl (subst (λ xs. IsAmong xs v) (new_records q) a);
         ttls = λ q s e. ttl_by q s e (settled q);
         exact = λ q. new_records q ∙ exact_by q (names_owner rs q) refl;
-        unnamed = λ q no. unnamed_new q no (settled q);
+        unnamed = λ q free. unnamed_new q free (settled q);
       }
 
   same_by : (q : RrKey) → records_at n q ≡ records_at m q → IsSettled (tree.get key_cmp m q) (current q) (tree.get key_cmp n q) → tree.get key_cmp n q ≡ tree.get key_cmp m q
@@ -152,6 +152,9 @@ module _ (origin : NameValue) (class : DNSClass) (rs : List (Record RData)) (m p
   whole_same q same = same_by q same (settled q)
 
 -- ---- what is found of the sets that stand
+
+abbrev gone_mark : Option (Option SetValue)
+gone_mark = Some None
 
 no_set : (o : Option SetValue) → is_some o ≡ false → o ≡ None
 no_set None h = refl
@@ -165,12 +168,14 @@ or_right : (b : Bool) → (b || true) ≡ true
 or_right true = refl
 or_right false = refl
 
+owns_at : (r : Record RData) (rs : List (Record RData)) (q : RrKey) → (names_set rs q ≡ true → names_owner rs q ≡ true) → (b : Bool) → is_under r q ≡ b → (b || names_set rs q) ≡ true
+    → names_owner (r ∷ rs) q ≡ true
+owns_at r rs q more true e h = ap (λ b. b || names_owner rs q) (under_owner r q e)
+owns_at r rs q more false e h = ap (λ b. is_owned r.name q || b) (more h) ∙ or_right (is_owned r.name q)
+
 owns_named : (rs : List (Record RData)) (q : RrKey) → names_set rs q ≡ true → names_owner rs q ≡ true
 owns_named [] q h = absurd cc
-owns_named (r ∷ rs) q h = by (is_under r q) refl h where
-  by : (b : Bool) → is_under r q ≡ b → (b || names_set rs q) ≡ true → names_owner (r ∷ rs) q ≡ true
-  by true e h = ap (λ b. b || names_owner rs q) (under_owner r q e)
-  by false e h = ap (λ b. is_owned r.name q || b) (owns_named rs q h) ∙ or_right (is_owned r.name q)
+owns_named (r ∷ rs) q h = owns_at r rs q (owns_named rs q) (is_under r q) refl h
 
 -- a map whose keys of named owners are opened
 pub opened_is : (rs : List (Record RData)) (ks : List RrKey) (m part : BTreeMap RrKey SetValue) → NamesKeys rs m ks
@@ -198,39 +203,39 @@ module _ (rs : List (Record RData)) (ks : List RrKey) (m part now n : BTreeMap R
       ∙ (λ i. added_at (none_added q i) (unwrap_or (gone q i) (tree.get key_cmp m q)))
       ∙ ap (λ b. at_first q (b && not (is_some (tree.get key_cmp now q)))) (names q)
 
-  abbrev current : RrKey → Bool → Option SetValue
-  current q b = cond b (tree.get key_cmp now q) (tree.get key_cmp m q)
+  abbrev current_at : RrKey → Bool → Option SetValue
+  current_at q b = cond b (tree.get key_cmp now q) (tree.get key_cmp m q)
 
   absent : (q : RrKey) → names_set rs q ≡ false → names_owner rs q ≡ true → tree.get key_cmp m q ≡ None → tree.get key_cmp now q ≡ None
-  absent q no e none = from (unnamed q no) where
+  absent q free e none = from (unnamed q free) where
     from : (tree.get key_cmp now q ≡ tree.get key_cmp part q) ⊎ (tree.get key_cmp now q ≡ None) → tree.get key_cmp now q ≡ None
     from (inl h) = h ∙ opened q ∙ ap (λ b. cond b (tree.get key_cmp m q) None) e ∙ none
     from (inr h) = h
 
   unchanged : (q : RrKey) → names_set rs q ≡ false → names_owner rs q ≡ true → is_some (tree.get key_cmp now q) ≡ true → tree.get key_cmp now q ≡ tree.get key_cmp m q
-  unchanged q no e some = from (unnamed q no) where
+  unchanged q free e some = from (unnamed q free) where
     from : (tree.get key_cmp now q ≡ tree.get key_cmp part q) ⊎ (tree.get key_cmp now q ≡ None) → tree.get key_cmp now q ≡ tree.get key_cmp m q
     from (inl h) = h ∙ opened q ∙ ap (λ b. cond b (tree.get key_cmp m q) None) e
     from (inr h) = absurd (a_set (tree.get key_cmp now q) some h)
 
   -- by whether the owner is named, the map has a set, one stands now, and the set is named
   case : (q : RrKey) (owned had has set : Bool) → names_owner rs q ≡ owned → is_some (tree.get key_cmp m q) ≡ had → is_some (tree.get key_cmp now q) ≡ has → names_set rs q ≡ set
-      → (set && has) ≡ false → tree.get key_cmp n q ≡ at_first q ((owned && had) && not has) → IsSettled (tree.get key_cmp m q) (current q owned) (tree.get key_cmp n q)
-  case q false had has set o h s t no is = inl (is, refl)
-  case q true true false set o h s t no is = inr (is ∙ sym (no_set (tree.get key_cmp now q) s), λ e. full (tree.get key_cmp m q) refl h (sym e ∙ ap records_in (no_set (tree.get key_cmp now q) s))) where
+      → (set && has) ≡ false → tree.get key_cmp n q ≡ at_first q ((owned && had) && not has) → IsSettled (tree.get key_cmp m q) (current_at q owned) (tree.get key_cmp n q)
+  case q false had has set o h s t free is = inl (is, refl)
+  case q true true false set o h s t free is = inr (is ∙ sym (no_set (tree.get key_cmp now q) s), λ e. full (tree.get key_cmp m q) refl h (sym e ∙ ap records_in (no_set (tree.get key_cmp now q) s))) where
     full : (p : Option SetValue) → tree.get key_cmp m q ≡ p → is_some (tree.get key_cmp m q) ≡ true → records_in (tree.get key_cmp m q) ≢ []
     full None e some = absurd (a_set (tree.get key_cmp m q) some e)
     full (Some x) e some = λ none. filled q x e (sym (ap records_in e) ∙ none)
-  case q true true true false o h s t no is = inl (is, ap records_in (unchanged q t o s))
-  case q true true true true o h s t no is = absurd cc
-  case q true false false set o h s t no is = inl (is, ap records_in (no_set (tree.get key_cmp now q) s ∙ sym (no_set (tree.get key_cmp m q) h)))
-  case q true false true false o h s t no is = absurd (a_set (tree.get key_cmp now q) s (absent q t o (no_set (tree.get key_cmp m q) h)))
-  case q true false true true o h s t no is = absurd cc
+  case q true true true false o h s t free is = inl (is, ap records_in (unchanged q t o s))
+  case q true true true true o h s t free is = absurd cc
+  case q true false false set o h s t free is = inl (is, ap records_in (no_set (tree.get key_cmp now q) s ∙ sym (no_set (tree.get key_cmp m q) h)))
+  case q true false true false o h s t free is = absurd (a_set (tree.get key_cmp now q) s (absent q t o (no_set (tree.get key_cmp m q) h)))
+  case q true false true true o h s t free is = absurd cc
 
-  settled_at : (q : RrKey) (b : Bool) → (names_set rs q && is_some (tree.get key_cmp now q)) ≡ b → IsSettled (tree.get key_cmp m q) (current q (names_owner rs q)) (tree.get key_cmp n q)
+  settled_at : (q : RrKey) (b : Bool) → (names_set rs q && is_some (tree.get key_cmp now q)) ≡ b → IsSettled (tree.get key_cmp m q) (current_at q (names_owner rs q)) (tree.get key_cmp n q)
   settled_at q true e =
       let own = owns_named rs q (left (names_set rs q) (is_some (tree.get key_cmp now q)) e) in
-      subst (λ b. IsSettled (tree.get key_cmp m q) (current q b) (tree.get key_cmp n q)) (sym own)
+      subst (λ b. IsSettled (tree.get key_cmp m q) (current_at q b) (tree.get key_cmp n q)) (sym own)
       (subst (λ o. IsSettled (tree.get key_cmp m q) (tree.get key_cmp now q) o) (sym (new q)) (settles.named q e)) where
         left : (a b : Bool) → (a && b) ≡ true → a ≡ true
         left true b e = refl
@@ -269,7 +274,7 @@ module _ (z part now : HeldZone) (rs : List (Record RData)) (ks : List RrKey) (f
     whole_same z.origin z.class rs z.sets opens.0 now.sets n before opened after (settled n installs),
   )
 
-  there_at : (q : RrKey) (b c : Bool) (o : Option SetValue) → is_some (cond ((b && is_some o) && c) (Some (None {A = SetValue})) None) ≡ true → is_some o ≡ true
+  there_at : (q : RrKey) (b c : Bool) (o : Option SetValue) → is_some (cond ((b && is_some o) && c) gone_mark None) ≡ true → is_some o ≡ true
   there_at q true c (Some s) h = refl
   there_at q true c None h = absurd cc
   there_at q false c o h = absurd cc

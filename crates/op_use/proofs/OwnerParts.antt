@@ -57,14 +57,18 @@ any_tied : (p : RrKey → Bool) (k : RrKey) (ks : List RrKey) → list_any (eq_b
 any_tied p k [] h good = absurd cc
 any_tied p k (x ∷ ks) h good = any_tied_at p k x (list_any p ks) (list_any (eq_by_cmp key_cmp k) ks) _ refl h good (λ t. any_tied p k ks t good)
 
-one_of : (p : RrKey → Bool) (ks : List RrKey) → list_any p ks ≡ true → (k : RrKey) × (p k ≡ true) × (list_any (eq_by_cmp key_cmp k) ks ≡ true)
+abbrev One : (RrKey → Bool) → List RrKey → Type 0
+One p ks = (k : RrKey) × (p k ≡ true) × (list_any (eq_by_cmp key_cmp k) ks ≡ true)
+
+one_at : (p : RrKey → Bool) (x : RrKey) (ks : List RrKey) → (list_any p ks ≡ true → One p ks) → (b : Bool) → p x ≡ b → (b || list_any p ks) ≡ true → One p (x ∷ ks)
+one_at p x ks more true e h = (x, e, ap (λ c. c || list_any (eq_by_cmp key_cmp x) ks) (tied x))
+one_at p x ks more false e h =
+    let found = more h in
+    (found.0, found.1, ap (λ c. eq_by_cmp key_cmp found.0 x || c) found.2 ∙ or_right (eq_by_cmp key_cmp found.0 x))
+
+one_of : (p : RrKey → Bool) (ks : List RrKey) → list_any p ks ≡ true → One p ks
 one_of p [] h = absurd cc
-one_of p (x ∷ ks) h = by (p x) refl h where
-  by : (b : Bool) → p x ≡ b → (b || list_any p ks) ≡ true → (k : RrKey) × (p k ≡ true) × (list_any (eq_by_cmp key_cmp k) (x ∷ ks) ≡ true)
-  by true e h = (x, e, ap (λ c. c || list_any (eq_by_cmp key_cmp x) ks) (tied x))
-  by false e h =
-      let found = one_of p ks h in
-      (found.0, found.1.0, ap (λ c. eq_by_cmp key_cmp found.0 x || c) found.1.1 ∙ or_right (eq_by_cmp key_cmp found.0 x))
+one_of p (x ∷ ks) h = one_at p x ks (one_of p ks) (p x) refl h
 
 both_ways : (a b : Bool) → (a ≡ true → b ≡ true) → (b ≡ true → a ≡ true) → a ≡ b
 both_ways true true f g = refl
@@ -83,7 +87,7 @@ has_one : (p passes : RrKey → Bool) (z y : Zone) → Agrees p z y → ((q : Rr
 has_one p passes z y h less any =
     let found = one_of passes (fin.keys z.sets) any in
     any_tied passes found.0 (fin.keys y.sets)
-    (sym (fin.contains_key-keys y.sets found.0) ∙ ap is_some (sym (h.sets found.0 (less found.0 found.1.0))) ∙ fin.contains_key-keys z.sets found.0 ∙ found.1.1) found.1.0
+    (sym (fin.contains_key-keys y.sets found.0) ∙ ap is_some (sym (h.sets found.0 (less found.0 found.1))) ∙ fin.contains_key-keys z.sets found.0 ∙ found.2) found.1
 
 turned_over : (p : RrKey → Bool) (z y : Zone) → Agrees p z y → Agrees p y z
 turned_over p z y h = record { origin = sym h.origin; class = sym h.class; sets = λ q e. sym (h.sets q e) }
@@ -148,9 +152,9 @@ module _ (p : RrKey → Bool) (r : Record RData) (all : (q : RrKey) → is_owned
   agrees_next z y h = subst (λ c. Agrees p (update z r) (update_by (use_of c r.dns_class) y r)) h.class (by_use (use_of z.class r.dns_class) z y h)
 
   after_use : (how : Use) (z y : Zone) (q : RrKey) (xs : List (Record RData)) → Agrees p z y → after_by how z r q xs ≡ after_by how y r q xs
-  after_use OfZone z y q xs h i = if not (same_kept_out z y h i) && is_under r q then with_record r xs else xs
-  after_use OfAny z y q xs h i = if same_goes z y h q i then [] else xs
-  after_use OfNone z y q xs h i = if not (same_needed z y h i) && is_under r q then parted r xs else xs
+  after_use OfZone z y q xs h = λ i. if not (same_kept_out z y h i) && is_under r q then with_record r xs else xs
+  after_use OfAny z y q xs h = λ i. if same_goes z y h q i then [] else xs
+  after_use OfNone z y q xs h = λ i. if not (same_needed z y h i) && is_under r q then parted r xs else xs
   after_use OfNothing z y q xs h = refl
 
   pub after_same : (z y : Zone) (q : RrKey) (xs : List (Record RData)) → Agrees p z y → after_update z r q xs ≡ after_update y r q xs

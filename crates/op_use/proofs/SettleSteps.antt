@@ -214,8 +214,8 @@ all_out q ks added m mid n keys absent others out = out ∙ ap (λ b. cond b Non
 -- ---- the sets that updates name, one after the other
 
 -- the sets that the updates rs name are settled, and no others are touched
-pub record IsSettling (rs : List (Record RData)) (was now left : Map) (old mid : Outcome) : Type 0 where
-  pub left : (q : RrKey) → tree.get key_cmp left q ≡ cond (names_set rs q) None (tree.get key_cmp now q)
+pub record IsSettling (rs : List (Record RData)) (was now rest : Map) (old mid : Outcome) : Type 0 where
+  pub left : (q : RrKey) → tree.get key_cmp rest q ≡ cond (names_set rs q) None (tree.get key_cmp now q)
   pub free : (q : RrKey) → names_set rs q ≡ false
       → (tree.get key_cmp mid.added q ≡ tree.get key_cmp old.added q) × (tree.get key_cmp mid.changed q ≡ tree.get key_cmp old.changed q)
   pub done : Settles rs was now old mid

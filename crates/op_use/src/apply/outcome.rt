@@ -100,8 +100,9 @@ fn change_all(
             sets.remove(&key);
             continue;
         };
-        if let Some(place) = sets.get_mut(&key) {
-            *place = set;
-        }
+        let Some(place) = sets.get_mut(&key) else {
+            continue;
+        };
+        *place = set;
     }
 }

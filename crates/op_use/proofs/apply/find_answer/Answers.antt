@@ -4,7 +4,9 @@ use Rattle.op_use.proofs.apply.find_answer.Goals as goal
 use Rattle.op_use.specs.HeldZone.{HeldZone, zone_held}
 use Rattle.op_use.specs.Outcome.{IsOutcome, UpdatesTo}
 use Rattle.op_use.specs.Server.{fault, sections_of}
-use Rattle.std.proofs.Common.{ap, subst, sym, ◌∙◌}
+use Rattle.base_data.specs.declared.rdata.RData.{RData}
+use Rattle.rr.specs.declared.record.Record.{Record}
+use Rattle.std.proofs.Common.{List, subst, sym, ◌∙◌}
 
 pub invariant_of-zone : goal.invariant_of-zone
 invariant_of-zone c = c.requires
@@ -26,6 +28,6 @@ returns c =
     let sets = c.args.sets.now in (
       c.in_ok-outcome.ensures.stays,
       λ new installs.
-          let both = c.in_ok-outcome.ensures.updated new installs in
+          let both = subst (λ (rs : List (Record RData)). UpdatesTo rs _ c.in_ok-outcome.outcome) c.deref.ensures.value c.in_ok-outcome.ensures.updated new installs in
           applied_all origin class sets new s (sym c.is_supported.ensures ∙ c.if-not-is_supported.false) (sym c.in_ok-code.ensures ∙ c.in_default.is) both.0 both.1,
     )

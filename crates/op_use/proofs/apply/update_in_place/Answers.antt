@@ -8,7 +8,7 @@ install-requires c =
     let both = rw c.in-Done.is at c.in_ok-answer.ensures in
     both.0
 
-pub returns-in_ok-install-clause-applied : goal.returns-in_ok-install-clause-applied
-returns-in_ok-install-clause-applied c =
+pub returns-in_ok-install-in-Done-clause-applied : goal.returns-in_ok-install-in-Done-clause-applied
+returns-in_ok-install-in-Done-clause-applied c =
     let both = rw c.in-Done.is at c.in_ok-answer.ensures in
-    both.1 c.install.new.sets c.in_ok-install.ensures.ok
+    both.1 c.install.new.sets c.in_ok-install-in-Done.ensures.ok

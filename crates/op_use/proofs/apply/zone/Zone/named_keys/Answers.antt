@@ -5,6 +5,7 @@ use Rattle.op_use.proofs.MapSteps.{taken_more}
 use Rattle.op_use.proofs.SettleSteps.{named_again, named_next, seen_next, still_named}
 use Rattle.op_use.proofs.apply.zone.Zone.named_keys.Goals as goal
 use Rattle.op_use.specs.Applying.{names_owner}
+use Rattle.op_use.specs.HeldZone.{HeldZone}
 use Rattle.op_use.specs.MapUpdates.{has_key}
 use Rattle.op_use.specs.Outcome.{NamesKeys}
 use Rattle.op_use.specs.Zone.{is_owned}
@@ -45,9 +46,11 @@ loop-entry-preserved c =
     let r = c.entry-item.result in
     let grown = taken_more es i r c.loop-entry-test.true c.entry-item.is in
     let m = c.args.self.now.sets in
+    let appended = (λ i. c.loop-entry.keys.items
+    ++ sym (c.in_ok-more.ensures ∙ ap (λ (y : HeldZone). filter (λ (k : RrKey). is_owned c.entry-item.result.name k) (keys y.sets)) c.self.view_is) i) ∙ sym c.in_ok-append.ensures.items in
     record {
       named = subst (λ (rs : List (Record RData)). NamesKeys rs m c.append.new.self.items) grown
-          (subst (λ (ks : List RrKey). NamesKeys (take i es ++ r ∷ []) m ks) (search rules)
+          (subst (λ (ks : List RrKey). NamesKeys (take i es ++ r ∷ []) m ks) appended
           (named_next (take i es) r m c.loop-entry.keys.items c.loop-entry.invariant.named));
       seen = λ k q h same. subst (λ (rs : List (Record RData)). names_owner rs q ≡ true) grown
           (seen_next (take i es) r q k c.in_ok-owner.owner (contains key_cmp c.loop-entry.seen k) (contains key_cmp c.insert.new.self k) c.in_ok-owner.ensures

@@ -12,13 +12,13 @@ use Rattle.rr.specs.RecordSet.{SetValue}
 use Rattle.std.proofs.Common.{List, None, Some, ap, cond, is_some, not, subst, sym, ◌&&◌, ◌∙◌, ◌≡◌}
 use Rattle.std.specs.BTreeMap.{BTreeMap, get}
 
-pub settle-requires-fits : goal.settle-requires-fits
-settle-requires-fits c =
+pub settle-requires-clause-fits : goal.settle-requires-clause-fits
+settle-requires-clause-fits c =
     subst (λ (z : HeldZone). IsZoneMap z.class c.into_sets.result) c.in_ok-part.ensures.1
     (subst (λ (z : HeldZone). IsZoneMap z.class c.into_sets.result) c.in_ok-update.ensures.1 c.into_sets.ensures.fits)
 
-pub settle-requires-new : goal.settle-requires-new
-settle-requires-new c = λ q e. (
+pub settle-requires-clause-new : goal.settle-requires-clause-new
+settle-requires-clause-new c = λ q e. (
   none_in c.new.result q c.new.ensures.empty,
   gone_free (has_key q c.as_slice-2.result.now) (get key_cmp c.into_sets.result q) _ (c.in_ok-gone.ensures q) e,
 )

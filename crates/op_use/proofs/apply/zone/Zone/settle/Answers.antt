@@ -50,7 +50,7 @@ loop-entry-preserved-then-are_same c =
     (settling_same (take i es) r c.args.self.now.sets c.args.now c.loop-entry.now c.remove.new.self c.args.outcome.now c.loop-entry.outcome c.in_ok-key.key own c.loop-entry.invariant
     c.remove.ensures.updates.0 c.requires.new c.in_ok-set.set here c.in-Some-get.was.now
     (ap (λ (z : HeldZone). get key_cmp z.sets c.in_ok-key.key) (sym c.self.view_is) ∙ sym c.in-Some-get.ensures.value)
-    (sym c.as_slice.ensures ∙ c.are_same.ensures.0 c.if-are_same.true ∙ c.as_slice-2.ensures))
+    (sym c.as_slice.ensures ∙ c.are_same.ensures.0 c.if-are_same.true ∙ c.as_slice-in-loop-entry.ensures))
 
 pub loop-entry-preserved : goal.loop-entry-preserved
 loop-entry-preserved c =
@@ -59,11 +59,11 @@ loop-entry-preserved c =
     let r = c.entry-item.result in
     let own : c.in_ok-key.key ≡ record_key c.entry-item.result = c.in_ok-key.ensures ∙ ap (key_of c.entry-item.result.name) c.record_type.ensures in
     let here : get key_cmp c.loop-entry.now c.in_ok-key.key ≡ Some c.in_ok-set.set = sym c.in-Some.ensures.value ∙ ap Some (sym c.in_ok-set.ensures) in
-    subst (λ (rs : List (Record RData)). IsSettling rs c.args.self.now.sets c.args.now c.remove.new.self c.args.outcome.now (record c.loop-entry.outcome { changed = c.insert-2.new.self })) (taken_more es i r c.loop-entry-test.true c.entry-item.is)
+    subst (λ (rs : List (Record RData)). IsSettling rs c.args.self.now.sets c.args.now c.remove.new.self c.args.outcome.now (record c.loop-entry.outcome { changed = c.insert-in-loop-entry.new.self })) (taken_more es i r c.loop-entry-test.true c.entry-item.is)
     (settling_changed (take i es) r c.args.self.now.sets c.args.now c.loop-entry.now c.remove.new.self c.args.outcome.now c.loop-entry.outcome c.in_ok-key.key own c.loop-entry.invariant
-    c.remove.ensures.updates.0 c.requires.new c.in_ok-set.set here c.in-Some-get.was.now c.insert-2.new.self
+    c.remove.ensures.updates.0 c.requires.new c.in_ok-set.set here c.in-Some-get.was.now c.insert-in-loop-entry.new.self
     (ap (λ (z : HeldZone). get key_cmp z.sets c.in_ok-key.key) (sym c.self.view_is) ∙ sym c.in-Some-get.ensures.value)
-    (λ same. true≢false (sym (c.are_same.ensures.1 (c.as_slice.ensures ∙ same ∙ sym c.as_slice-2.ensures)) ∙ c.if-are_same.false)) c.in_ok-insert-2.ensures.updates.0)
+    (λ same. true≢false (sym (c.are_same.ensures.1 (c.as_slice.ensures ∙ same ∙ sym c.as_slice-in-loop-entry.ensures)) ∙ c.if-are_same.false)) c.in_ok-insert-2.ensures.updates.0)
 
 pub returns : goal.returns
 returns c = subst (λ (rs : List (Record RData)). Settles rs c.args.self.now.sets c.args.now c.args.outcome.now c.loop-entry.outcome)
