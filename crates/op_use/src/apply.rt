@@ -132,7 +132,7 @@ fn find_answer(
     if let Some(code) = fault(&zone, message)? {
         return Ok(Answer::Refused(code));
     }
-    let outcome = zone.outcome(alloc, &message.authorities)?;
+    let outcome = zone.outcome(&message.authorities)?;
     Ok(Answer::Done(outcome))
 }
 

@@ -3,7 +3,7 @@
 mod alternating;
 mod applied;
 pub(super) mod builders;
-mod in_place;
+pub(super) mod in_place;
 mod sections;
 
 ghost use Rattle.std.specs.Prelude.{◌≡◌, IfOk, true};

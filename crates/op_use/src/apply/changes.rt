@@ -21,10 +21,11 @@ use std::collections::{BTreeMap, BTreeSet};
 impl<'a> Zone<'a> {
     /// What these updates make of the zone's sets. A set whose records are the same after them stays, in every field:
     /// its TTL, its serial and the spelling of its owner may have changed on the way.
-    pub(crate) fn outcome(&self, alloc: Global, entries: &[Record]) -> Result<Outcome, AllocError>
+    pub(crate) fn outcome(&self, entries: &[Record]) -> Result<Outcome, AllocError>
         ensures stays { IfOk result (λ o. IsOutcome o self.now.sets) }
         ensures updated { IfOk result (λ o. UpdatesTo entries.now self.now o) }
     {
+        let alloc = self.origin.allocator();
         let keys = self.named_keys(alloc, entries)?;
         let mut part = ChangingZone::open(alloc, self, keys.as_slice())?;
         part.update(entries)?;

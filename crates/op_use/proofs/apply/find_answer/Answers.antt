@@ -28,6 +28,6 @@ returns c =
     let sets = c.args.sets.now in (
       c.in_ok-outcome.ensures.stays,
       λ new installs.
-          let both = subst (λ (rs : List (Record RData)). UpdatesTo rs _ c.in_ok-outcome.outcome) c.deref.ensures.value c.in_ok-outcome.ensures.updated new installs in
+          let both = subst (λ (rs : List (Record RData)). UpdatesTo rs (record { origin = origin; class = class; sets = sets }) c.in_ok-outcome.outcome) c.deref.ensures.value c.in_ok-outcome.ensures.updated new installs in
           applied_all origin class sets new s (sym c.is_supported.ensures ∙ c.if-not-is_supported.false) (sym c.in_ok-code.ensures ∙ c.in_default.is) both.0 both.1,
     )

@@ -14,13 +14,13 @@ use Rattle.std.specs.BTreeMap.{BTreeMap, get}
 
 pub settle-requires-clause-fits : goal.settle-requires-clause-fits
 settle-requires-clause-fits c =
-    subst (λ (z : HeldZone). IsZoneMap z.class c.into_sets.result) c.in_ok-part.ensures.1
-    (subst (λ (z : HeldZone). IsZoneMap z.class c.into_sets.result) c.in_ok-update.ensures.1 c.into_sets.ensures.fits)
+    subst (λ (z : HeldZone). IsZoneMap z.class c.into_sets-sets.result) c.in_ok-part.ensures.1
+    (subst (λ (z : HeldZone). IsZoneMap z.class c.into_sets-sets.result) c.in_ok-update.ensures.1 c.into_sets-sets.ensures.fits)
 
 pub settle-requires-clause-new : goal.settle-requires-clause-new
 settle-requires-clause-new c = λ q e. (
   none_in c.new.result q c.new.ensures.empty,
-  gone_free (has_key q c.as_slice-2.result.now) (get key_cmp c.into_sets.result q) _ (c.in_ok-gone.ensures q) e,
+  gone_free (has_key q c.as_slice-2.result.now) (get key_cmp c.into_sets-sets.result q) _ (c.in_ok-gone.ensures q) e,
 )
 
 pub returns-clause-stays : goal.returns-clause-stays
@@ -32,8 +32,8 @@ returns-clause-stays c =
     (subst (λ (y : HeldZone). IsZoneMap y.class y.sets) c.self.view_is c.self.invariant) c.in_ok-keys.ensures
     (subst (λ (xs : List RrKey). Opens xs z c.in_ok-part.part) c.as_slice.ensures.value c.in_ok-part.ensures) c.in_ok-update.ensures
     (λ q. none_in c.new.result q c.new.ensures.empty)
-    (λ q. c.in_ok-gone.ensures q ∙ (λ i. cond (has_key q (c.as_slice-2.ensures.value i) && not (is_some (get key_cmp (c.into_sets.ensures.sets i) q))) (Some None) None))
-    (subst (λ (m : BTreeMap RrKey SetValue). Settles rs z.sets m (record { added = c.new.result; changed = c.in_ok-gone.field-0 }) c.settle.new.outcome) c.into_sets.ensures.sets
+    (λ q. c.in_ok-gone.ensures q ∙ (λ i. cond (has_key q (c.as_slice-2.ensures.value i) && not (is_some (get key_cmp (c.into_sets-sets.ensures.sets i) q))) (Some None) None))
+    (subst (λ (m : BTreeMap RrKey SetValue). Settles rs z.sets m (record { added = c.new.result; changed = c.in_ok-gone.field-0 }) c.settle.new.outcome) c.into_sets-sets.ensures.sets
     c.in_ok-settle.ensures)
 
 pub returns-clause-updated : goal.returns-clause-updated
@@ -45,6 +45,6 @@ returns-clause-updated c =
     (subst (λ (y : HeldZone). IsZoneMap y.class y.sets) c.self.view_is c.self.invariant) c.in_ok-keys.ensures
     (subst (λ (xs : List RrKey). Opens xs z c.in_ok-part.part) c.as_slice.ensures.value c.in_ok-part.ensures) c.in_ok-update.ensures
     (λ q. none_in c.new.result q c.new.ensures.empty)
-    (λ q. c.in_ok-gone.ensures q ∙ (λ i. cond (has_key q (c.as_slice-2.ensures.value i) && not (is_some (get key_cmp (c.into_sets.ensures.sets i) q))) (Some None) None))
-    (subst (λ (m : BTreeMap RrKey SetValue). Settles rs z.sets m (record { added = c.new.result; changed = c.in_ok-gone.field-0 }) c.settle.new.outcome) c.into_sets.ensures.sets
+    (λ q. c.in_ok-gone.ensures q ∙ (λ i. cond (has_key q (c.as_slice-2.ensures.value i) && not (is_some (get key_cmp (c.into_sets-sets.ensures.sets i) q))) (Some None) None))
+    (subst (λ (m : BTreeMap RrKey SetValue). Settles rs z.sets m (record { added = c.new.result; changed = c.in_ok-gone.field-0 }) c.settle.new.outcome) c.into_sets-sets.ensures.sets
     c.in_ok-settle.ensures)
