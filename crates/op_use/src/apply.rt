@@ -90,7 +90,7 @@ pub fn update_in_place(
     ensures refused { OnErr result (HasSameSets sets.old sets.new) }
     ensures only { IsOkUnless result ProtoError.Memory }
 {
-    let answer = find_answer(alloc, sets, origin, class, message)?;
+    let answer = find_answer(sets, origin, class, message)?;
     match answer {
         Answer::Refused(code) => Ok(code),
         Answer::Done(outcome) => {
@@ -111,7 +111,6 @@ enum Answer {
 
 /// What comes of an update of a zone, which stays as it is so far.
 fn find_answer(
-    alloc: Global,
     sets: &BTreeMap<RrKey, RecordSet>,
     origin: &Name,
     class: DNSClass,
