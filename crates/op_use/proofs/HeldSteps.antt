@@ -67,10 +67,3 @@ pub put_back : (k : RrKey) (xs : List (Record RData)) (old mid new : HeldZone) �
 put_back k xs old mid new first next = chain (subst (λ (z : HeldZone). HoldsAt k xs z new) first.1 next) where
   chain : HoldsAt k xs (record old { sets = first.0 }) new → HoldsAt k xs old new
   chain h = (h.0, h.1, chained old.class k xs old.sets first.0 h.0 first.2 h.2)
-
--- the map of a zone that was made of one
-pub all_updated : (z new : HeldZone) (origin : NameValue) (class : DNSClass) (m : BTreeMap RrKey SetValue) (rs : List (Record RData))
-    → z ≡ record { origin = origin; class = class; sets = m } → IsUpdated rs z new → IsZoneMap class m → IsAfter origin class rs m new.sets
-all_updated z new origin class m rs e h old = step (subst (λ (y : HeldZone). IsUpdated rs y new) e h) where
-  step : IsUpdated rs (record { origin = origin; class = class; sets = m }) new → IsAfter origin class rs m new.sets
-  step u = subst (λ n. IsAfter origin class rs m n) (sym (ap (λ (y : HeldZone). y.sets) u.1)) (u.2 old)

@@ -8,7 +8,7 @@ mod Deletions
 mod FollowSteps
 mod Given
 mod HeldSteps
-mod KeptSets
+mod KeySets
 mod KeySteps
 mod ListedSteps
 mod MapIsZone
@@ -17,8 +17,11 @@ pub mod MapZones
 mod Meaning
 mod MergeSteps
 mod Origins
+mod OutcomeSteps
 pub mod OwnerKeys
+mod OwnerParts
 mod ServerRowsLemmas
+mod SettleSteps
 mod SpelledSteps
 mod LeftSets
 pub mod TypeSteps

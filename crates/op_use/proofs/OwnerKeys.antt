@@ -122,15 +122,6 @@ module _ (owner : NameValue) {X : Type 0} where
     any_owned [] = refl
     any_owned (e ∷ es) = any_step e (filter owned_entry es) (list_any (passes owner p) (keys_of es)) (is_owned owner e.0) refl (any_owned es)
 
-    kept_step : (e : RrKey × X) (fs : List (RrKey × X)) (ks : List RrKey) (b : Bool) → is_owned owner e.0 ≡ b → filter (passes owner p) (keys_of fs) ≡ ks
-        → filter (passes owner p) (keys_of (cond b (e ∷ fs) fs)) ≡ cond (passes owner p e.0) (e.0 ∷ ks) ks
-    kept_step e fs ks true h more = ap (λ qs. cond (passes owner p e.0) (e.0 ∷ qs) qs) more
-    kept_step e fs ks false h more = more ∙ sym (ap (λ b. cond (b && p e.0) (e.0 ∷ ks) ks) h)
-
-    pub kept_owned : (es : List (RrKey × X)) → filter (passes owner p) (keys_of (filter owned_entry es)) ≡ filter (passes owner p) (keys_of es)
-    kept_owned [] = refl
-    kept_owned (e ∷ es) = kept_step e (filter owned_entry es) (filter (passes owner p) (keys_of es)) (is_owned owner e.0) refl (kept_owned es)
-
 -- A walk over an owner's keys: where it starts, and its steps.
 module _ (owner : NameValue) (p : RrKey → Bool) {X : Type 0} where
   pub starts : (k : RrKey) (s es : List (RrKey × X)) → k ≡ least owner → IsStrictlySortedBy key_cmp (keys_of es) → s ≡ entries_between key_cmp (Included k) Unbounded es
@@ -140,12 +131,6 @@ module _ (owner : NameValue) (p : RrKey → Bool) {X : Type 0} where
   pub any_start : (k : RrKey) (s es : List (RrKey × X)) → k ≡ least owner → IsStrictlySortedBy key_cmp (keys_of es) → s ≡ entries_between key_cmp (Included k) Unbounded es
       → list_any (passes owner p) (keys_of (take_while (owned_entry owner) s)) ≡ list_any (passes owner p) (keys_of es)
   any_start k s es e ordered h = ap (λ xs. list_any (passes owner p) (keys_of xs)) (starts k s es e ordered h) ∙ any_owned owner p es
-
-  pub kept_start : (k : RrKey) (s es : List (RrKey × X)) (found : List RrKey) → found ≡ [] → k ≡ least owner → IsStrictlySortedBy key_cmp (keys_of es)
-      → s ≡ entries_between key_cmp (Included k) Unbounded es
-      → found ++ filter (passes owner p) (keys_of (take_while (owned_entry owner) s)) ≡ filter (passes owner p) (keys_of es)
-  kept_start k s es found none e ordered h =
-      ap (λ ks. ks ++ filter (passes owner p) (keys_of (take_while (owned_entry owner) s))) none ∙ ap (λ xs. filter (passes owner p) (keys_of xs)) (starts k s es e ordered h) ∙ kept_owned owner p es
 
   pub any_here : (s es : List (RrKey × X)) (e : RrKey × X) (c : Bool) → s ≡ e ∷ es → is_owned owner e.0 ≡ true → p e.0 ≡ true
       → list_any (passes owner p) (keys_of (take_while (owned_entry owner) s)) ≡ c → true ≡ c
@@ -161,23 +146,24 @@ module _ (owner : NameValue) (p : RrKey → Bool) {X : Type 0} where
         rest : Bool
         rest = list_any (passes owner p) (keys_of (take_while (owned_entry owner) es))
 
-  pub kept_here : {s es : List (RrKey × X)} {e : RrKey × X} {more ks : List RrKey} (found : List RrKey) → more ≡ found ++ e.0 ∷ [] → s ≡ e ∷ es → is_owned owner e.0 ≡ true → p e.0 ≡ true
-      → found ++ filter (passes owner p) (keys_of (take_while (owned_entry owner) s)) ≡ ks
-      → more ++ filter (passes owner p) (keys_of (take_while (owned_entry owner) es)) ≡ ks
-  kept_here {s} {es} {e} found m h own good so_far = ap (λ xs. xs ++ rest) m ∙ append_assoc found (e.0 ∷ []) rest
-      ∙ sym (ap (λ xs. found ++ filter (passes owner p) (keys_of xs)) (ap (take_while (owned_entry owner)) h ∙ next_owned owner e es own)
-      ∙ ap (λ b. found ++ cond (b && p e.0) (e.0 ∷ rest) rest) own ∙ ap (λ b. found ++ cond b (e.0 ∷ rest) rest) good) ∙ so_far where
-        rest : List RrKey
-        rest = filter (passes owner p) (keys_of (take_while (owned_entry owner) es))
+-- all keys of an owner
+module _ (owner : NameValue) {X : Type 0} where
+  owned_keys : (es : List (RrKey × X)) → keys_of (filter (owned_entry owner) es) ≡ filter (λ k. is_owned owner k) (keys_of es)
+  owned_keys [] = refl
+  owned_keys (e ∷ es) = step (is_owned owner e.0) ∙ ap (λ ks. cond (is_owned owner e.0) (e.0 ∷ ks) ks) (owned_keys es) where
+    step : (b : Bool) → keys_of (cond b (e ∷ filter (owned_entry owner) es) (filter (owned_entry owner) es))
+        ≡ cond b (e.0 ∷ keys_of (filter (owned_entry owner) es)) (keys_of (filter (owned_entry owner) es))
+    step true = refl
+    step false = refl
 
-  pub kept_next : {s es : List (RrKey × X)} {e : RrKey × X} {ks : List RrKey} (found : List RrKey) → s ≡ e ∷ es → is_owned owner e.0 ≡ true → p e.0 ≡ false
-      → found ++ filter (passes owner p) (keys_of (take_while (owned_entry owner) s)) ≡ ks
-      → found ++ filter (passes owner p) (keys_of (take_while (owned_entry owner) es)) ≡ ks
-  kept_next {s} {es} {e} found h own bad more =
-      sym (ap (λ xs. found ++ filter (passes owner p) (keys_of xs)) (ap (take_while (owned_entry owner)) h ∙ next_owned owner e es own)
-      ∙ ap (λ b. found ++ cond (b && p e.0) (e.0 ∷ rest) rest) own ∙ ap (λ b. found ++ cond b (e.0 ∷ rest) rest) bad) ∙ more where
-        rest : List RrKey
-        rest = filter (passes owner p) (keys_of (take_while (owned_entry owner) es))
+  pub all_start : (k : RrKey) (s es : List (RrKey × X)) (found : List RrKey) → found ≡ [] → k ≡ least owner → IsStrictlySortedBy key_cmp (keys_of es)
+      → s ≡ entries_between key_cmp (Included k) Unbounded es → found ++ keys_of (take_while (owned_entry owner) s) ≡ filter (λ k. is_owned owner k) (keys_of es)
+  all_start k s es found none e ordered h = ap (λ ks. ks ++ keys_of (take_while (owned_entry owner) s)) none ∙ ap keys_of (starts owner (λ k. true) k s es e ordered h) ∙ owned_keys es
+
+  pub all_here : {s es : List (RrKey × X)} {e : RrKey × X} {more ks : List RrKey} (found : List RrKey) → more ≡ found ++ e.0 ∷ [] → s ≡ e ∷ es → is_owned owner e.0 ≡ true
+      → found ++ keys_of (take_while (owned_entry owner) s) ≡ ks → more ++ keys_of (take_while (owned_entry owner) es) ≡ ks
+  all_here {s} {es} {e} found m h own so_far = ap (λ xs. xs ++ keys_of (take_while (owned_entry owner) es)) m ∙ append_assoc found (e.0 ∷ []) (keys_of (take_while (owned_entry owner) es))
+      ∙ sym (ap (λ xs. found ++ keys_of xs) (ap (take_while (owned_entry owner)) h ∙ next_owned owner e es own)) ∙ so_far
 
 -- which of the keys that pass a test is q
 listed_step : (p : RrKey → Bool) (q k : RrKey) (c : Bool) (ks : List RrKey) (b s : Bool) → p k ≡ b → eq_by_cmp key_cmp k q ≡ s → list_any (λ x. eq_by_cmp key_cmp x q) ks ≡ (p q && c)

@@ -75,46 +75,48 @@ spelled_as : (origin : NameValue) (class : DNSClass) (m : BTreeMap RrKey SetValu
 spelled_as origin class m s q found h f =
     cond-true _ _ _ h ∙ ap (λ c. records_answered (zone_of_map origin class m) s.updates c q (records_at m q)) f
 
--- a copy of a map
-module _ (origin : NameValue) (class : DNSClass) (m n : BTreeMap RrKey SetValue) (same : tree.IsUnchanged m n) where
-  pub get_copy : (q : RrKey) → tree.get key_cmp n q ≡ tree.get key_cmp m q
+-- an update that is refused
+refused : (origin : NameValue) (class : DNSClass) (m : BTreeMap RrKey SetValue) (s : Sections) (code : ResponseCode) → IsZoneMap class m
+    → (code, zone_of_map origin class m) ≡ applied (zone_of_map origin class m) s
+    → ((q : RrKey) → records_applied (zone_of_map origin class m) s q (records_at m q) ≡ records_at m q) → IsApplied origin class s m code m
+refused origin class m s code old h spelled = record {
+  served = h;
+  is_map = old;
+  others = (λ q free. refl, λ e. refl);
+  taken = λ q v a. inl a;
+  ttls = λ q s e. inl e;
+  exact = λ q. sym (spelled q);
+  kept = λ q same. refl;
+}
+
+pub applied_not : (origin : NameValue) (class : DNSClass) (m : BTreeMap RrKey SetValue) (s : Sections) → IsZoneMap class m → is_all_supported s ≡ false → IsApplied origin class s m NotImp m
+applied_not origin class m s old h = refused origin class m s NotImp old (sym (cond-false _ _ _ h)) (λ q. cond-false _ _ _ h)
+
+pub applied_fault : (origin : NameValue) (class : DNSClass) (m : BTreeMap RrKey SetValue) (s : Sections) (code : ResponseCode) → IsZoneMap class m → is_all_supported s ≡ true
+    → fault (zone_of_map origin class m) s ≡ Some code → IsApplied origin class s m code m
+applied_fault origin class m s code old h f = refused origin class m s code old (sym (cond-true _ _ _ h ∙ ap (answer (zone_of_map origin class m) s.updates) f))
+    (λ q. spelled_as origin class m s q (Some code) h f)
+
+-- an update of a copy of a map is one of the map
+module _ (origin : NameValue) (class : DNSClass) (m n p : BTreeMap RrKey SetValue) (same : tree.IsUnchanged m n) where
+  get_copy : (q : RrKey) → tree.get key_cmp n q ≡ tree.get key_cmp m q
   get_copy q = ap (λ es. lookup (is_at (key_cmp q)) es) same
 
-  pub zone_copy : zone_of_map origin class n ≡ zone_of_map origin class m
+  zone_copy : zone_of_map origin class n ≡ zone_of_map origin class m
   zone_copy = ap (λ (es : List (RrKey × SetValue)). record { origin = origin; class = class; sets = fin.from_entries (map entry_of es) }) same
 
   pub map_copy : IsZoneMap class m → IsZoneMap class n
   map_copy old = λ q s e. old q s (sym (get_copy q) ∙ e)
 
-  refused : (s : Sections) (code : ResponseCode) → IsZoneMap class m → (code, zone_of_map origin class m) ≡ applied (zone_of_map origin class m) s
-      → ((q : RrKey) → records_applied (zone_of_map origin class m) s q (records_at m q) ≡ records_at m q) → IsApplied origin class s m code n
-  refused s code old h spelled = record {
-    served = ap (λ z. (code, z)) zone_copy ∙ h;
-    is_map = map_copy old;
-    others = (λ q free. get_copy q, λ e. same);
-    taken = λ q v a. inl (subst (λ o. IsAmong (records_in o) v) (get_copy q) a);
-    ttls = λ q s e. inl (sym (get_copy q) ∙ e);
-    exact = λ q. ap records_in (get_copy q) ∙ sym (spelled q);
-    kept = λ q same_records. get_copy q;
-  }
-
-  pub applied_not : (s : Sections) → IsZoneMap class m → is_all_supported s ≡ false → IsApplied origin class s m NotImp n
-  applied_not s old h = refused s NotImp old (sym (cond-false _ _ _ h)) (λ q. cond-false _ _ _ h)
-
-  pub applied_fault : (s : Sections) (code : ResponseCode) → IsZoneMap class m → is_all_supported s ≡ true → fault (zone_of_map origin class m) s ≡ Some code → IsApplied origin class s m code n
-  applied_fault s code old h f = refused s code old (sym (cond-true _ _ _ h ∙ ap (answer (zone_of_map origin class m) s.updates) f))
-      (λ q. spelled_as origin class m s q (Some code) h f)
-
-  -- updates of the copy are updates of the map
-  pub after_copy : (rs : List (Record RData)) (p : BTreeMap RrKey SetValue) → IsAfter origin class rs n p → IsAfter origin class rs m p
-  after_copy rs p after = record {
-    zone = after.zone ∙ ap (λ z. fold update z rs) zone_copy;
-    is_map = after.is_map;
-    others = λ q free. after.others q free ∙ get_copy q;
-    taken = λ q v a. subst (λ o. IsAmong (records_in o) v ⊎ IsAmong rs v) (get_copy q) (after.taken q v a);
-    ttls = λ q s e. subst (λ o. (o ≡ Some s) ⊎ (s.ttl ≡ last_ttl s.records)) (get_copy q) (after.ttls q s e);
-    exact = λ q. after.exact q ∙ (λ i. records_after (zone_copy i) rs q (records_in (get_copy q i)));
-    unnamed = λ q no. subst (λ o. (tree.get key_cmp p q ≡ o) ⊎ (tree.get key_cmp p q ≡ None)) (get_copy q) (after.unnamed q no);
+  pub applied_copy : (s : Sections) (code : ResponseCode) → IsApplied origin class s n code p → IsApplied origin class s m code p
+  applied_copy s code h = record {
+    served = h.served ∙ ap (λ z. applied z s) zone_copy;
+    is_map = h.is_map;
+    others = (λ q free. h.others.0 q free ∙ get_copy q, λ e. h.others.1 e ∙ same);
+    taken = λ q v a. subst (λ o. IsAmong (records_in o) v ⊎ IsAmong s.updates v) (get_copy q) (h.taken q v a);
+    ttls = λ q x e. subst (λ o. (o ≡ Some x) ⊎ (x.ttl ≡ last_ttl x.records)) (get_copy q) (h.ttls q x e);
+    exact = λ q. h.exact q ∙ (λ i. records_applied (zone_copy i) s q (records_in (get_copy q i)));
+    kept = λ q alike. h.kept q (alike ∙ ap records_in (sym (get_copy q))) ∙ get_copy q;
   }
 
 pub applied_all : (origin : NameValue) (class : DNSClass) (m p : BTreeMap RrKey SetValue) (s : Sections) → is_all_supported s ≡ true → fault (zone_of_map origin class m) s ≡ None

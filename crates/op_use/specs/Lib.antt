@@ -1,14 +1,14 @@
 pub mod AppliedMeaning
 pub mod AppliedRecords
 pub mod Applying
-pub mod ChangingSets
+pub mod CurrentSets
 pub mod DnsResponse
 pub mod HeldZone
-pub mod Kept
 pub mod Lending
 pub mod MapFaults
 pub mod MapUpdates
 pub mod NamedChanges
+pub mod Outcome
 pub mod Responses
 pub mod SerialMessage
 pub mod Server

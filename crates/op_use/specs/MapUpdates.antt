@@ -72,10 +72,25 @@ abbrev pub Lacks : RrKey → HeldZone → HeldZone → Type 0
 Lacks k old new = (sets : BTreeMap RrKey SetValue) × (new ≡ record old { sets = sets })
     × Puts k None old.sets sets
 
--- the new zone has this set under a key, and else what the old one has
-abbrev pub Gains : RrKey → SetValue → HeldZone → HeldZone → Type 0
-Gains k s old new = (sets : BTreeMap RrKey SetValue) × (new ≡ record old { sets = sets })
-    × Puts k (Some s) old.sets sets
+-- whether a key is among others
+abbrev pub has_key : RrKey → List RrKey → Bool
+has_key q ks = list_any (λ k. eq_by_cmp key_cmp k q) ks
+
+-- the new map is the old one without the sets under these keys
+abbrev pub LacksKeys : List RrKey → BTreeMap RrKey SetValue → BTreeMap RrKey SetValue → Type 0
+LacksKeys ks old new = (q : RrKey)
+    → tree.get key_cmp new q ≡ cond (has_key q ks) None (tree.get key_cmp old q)
+
+-- so is the new zone
+abbrev pub LacksAll : List RrKey → HeldZone → HeldZone → Type 0
+LacksAll ks old new = (sets : BTreeMap RrKey SetValue) × (new ≡ record old { sets = sets })
+    × LacksKeys ks old.sets sets
+
+-- the new zone has the sets of the old one that stand under these keys
+abbrev pub Opens : List RrKey → HeldZone → HeldZone → Type 0
+Opens ks old new = (sets : BTreeMap RrKey SetValue) × (new ≡ record old { sets = sets })
+    × ((q : RrKey) → tree.get key_cmp sets q
+    ≡ cond (has_key q ks) (tree.get key_cmp old.sets q) None)
 
 -- how an update's class reads
 abbrev pub use_value : Use → UseValue

@@ -1,14 +1,17 @@
 //! Updates applied to the record sets of a zone (RFC 2136, 3).
 
-ghost use Rattle.std.specs.Prelude.{◌≡◌, IfOk, IsOkUnless};
+ghost use Rattle.op_use.specs.Outcome.{IsAnswer};
+ghost use Rattle.std.specs.Prelude.{◌≡◌, IfOk, IsOkUnless, OnErr};
 ghost use Rattle.op.specs.Message.{message_value};
-ghost use Rattle.op_use.specs.Applying.{IsApplied, IsZoneMap};
+ghost use Rattle.op_use.specs.Applying.{HasSameSets, IsApplied, IsZoneMap};
 ghost use Rattle.op_use.specs.HeldZone.{HeldZone, zone_held};
 ghost use Rattle.op_use.specs.Server.{fault as fault_of, sections_of};
 
+mod changes;
 mod changing_zone;
-mod kept;
+mod current_set;
 pub mod laws;
+mod outcome;
 mod prerequisites;
 mod prescan;
 mod rules;
@@ -18,8 +21,8 @@ mod zone;
 mod zone_section;
 
 use base::{DNSClass, Name, ProtoError, RrKey};
-use changing_zone::ChangingZone;
 use op::{Message, ResponseCode};
+use outcome::Outcome;
 use rr::RecordSet;
 use std::alloc::{AllocError, Global};
 use std::collections::BTreeMap;
@@ -57,22 +60,79 @@ pub fn apply_update(
         r.1) }
     ensures only { IsOkUnless result ProtoError.Memory }
 {
+    let mut sets = sets.clone()?;
+    let code = update_in_place(alloc, &mut sets, origin, class, message)?;
+    Ok((code, sets))
+}
+
+/// Applies an update to the sets of a zone of this origin and class where they are: answers the server's code, and the
+/// sets become those that `apply_update` answers.
+///
+/// With any code but NoError, and where memory runs out, each set stays in every field as it was. What the update
+/// doesn't name isn't copied or looked at: of the owners that it names the keys are, and of their sets those that
+/// change.
+///
+/// # Errors
+///
+/// If memory runs out.
+pub fn update_in_place(
+    alloc: Global,
+    sets: &mut BTreeMap<RrKey, RecordSet>,
+    origin: &Name,
+    class: DNSClass,
+    message: &Message,
+) -> Result<ResponseCode, ProtoError>
+    requires { IsZoneMap class sets.old }
+    // The code and the sets are those that a server makes of the zone (RFC 2136, 3).
+    ensures applied { IfOk result
+        (λ code. IsApplied origin.now class (sections_of (message_value message.now)) sets.old
+        code sets.new) }
+    ensures refused { OnErr result (HasSameSets sets.old sets.new) }
+    ensures only { IsOkUnless result ProtoError.Memory }
+{
+    let answer = find_answer(sets, origin, class, message)?;
+    match answer {
+        Answer::Refused(code) => Ok(code),
+        Answer::Done(outcome) => {
+            outcome.install(alloc, sets)?;
+            Ok(ResponseCode::NoError)
+        }
+    }
+}
+
+/// What comes of an update.
+#[derive(Drop)]
+enum Answer {
+    /// Nothing changes.
+    Refused(ResponseCode),
+    /// The sets are changed so.
+    Done(Outcome),
+}
+
+/// What comes of an update of a zone, which stays as it is so far.
+fn find_answer(
+    sets: &BTreeMap<RrKey, RecordSet>,
+    origin: &Name,
+    class: DNSClass,
+    message: &Message,
+) -> Result<Answer, AllocError>
+    requires { IsZoneMap class sets.now }
+    ensures { IfOk result
+        (λ a. IsAnswer origin.now class (sections_of (message_value message.now)) sets.now a) }
+{
     let zone = Zone {
         origin,
         class,
-        sets: sets.clone()?,
+        sets,
     };
     if !is_supported(message) {
-        return Ok((ResponseCode::NotImp, zone.sets));
+        return Ok(Answer::Refused(ResponseCode::NotImp));
     }
     if let Some(code) = fault(&zone, message)? {
-        return Ok((code, zone.sets));
+        return Ok(Answer::Refused(code));
     }
-    let mut changing = ChangingZone::new(alloc, zone);
-    changing.update(&message.authorities)?;
-    let mut zone = changing.close()?;
-    zone.keep_same(sets, &message.authorities)?;
-    Ok((ResponseCode::NoError, zone.sets))
+    let outcome = zone.outcome(&message.authorities)?;
+    Ok(Answer::Done(outcome))
 }
 
 /// The code that an update is refused with, if it is: by its zone section, its prerequisites or the prescan, in this

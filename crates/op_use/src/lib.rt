@@ -8,7 +8,7 @@ pub mod serial_message;
 pub mod server_rows;
 pub mod update_message;
 
-pub use apply::{apply_update, is_supported_type};
+pub use apply::{apply_update, is_supported_type, update_in_place};
 pub use dns_response::DnsResponse;
 pub use serial_message::SerialMessage;
 pub use update_message::UpdateMessage;

@@ -1,6 +1,7 @@
 //! What is sent, each allocation of which `scripts/refused_memory` refuses in turn.
 
 use crate::updates::builders::{LONG_SENT, SENT, Sent, build};
+use crate::updates::in_place::are_several_made;
 use crate::updates::{EXAMPLE, LONG_ZONE};
 use op::Message;
 use std::alloc::Global;
@@ -42,5 +43,11 @@ fn the_same_is_built_of_a_zone_whose_name_takes_memory(rt: HostRuntime) -> Resul
             "{len}"
         );
     }
+    Ok(())
+}
+
+#[test]
+fn updates_in_place_are_made_whole_or_not_at_all(rt: HostRuntime) -> Result<(), Fail> {
+    assert!(rt; are_several_made(rt.alloc())?);
     Ok(())
 }

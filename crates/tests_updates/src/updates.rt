@@ -3,6 +3,7 @@
 mod alternating;
 mod applied;
 pub(super) mod builders;
+pub(super) mod in_place;
 mod sections;
 
 ghost use Rattle.std.specs.Prelude.{◌≡◌, IfOk, true};

@@ -81,7 +81,7 @@ impl<'a> Zone<'a> {
         ensures { IfOk result (λ b. b ≡ is_found_in (zone_held self.now) entry.now) }
     {
         if entry.record_type() == RecordType::ANY {
-            return has_type(&self.sets, &entry.name, false);
+            return has_type(self.sets, &entry.name, false);
         }
         let key = key_of(&entry.name, entry.record_type())?;
         Ok(self.sets.contains_key(&key))

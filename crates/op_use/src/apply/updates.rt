@@ -7,7 +7,7 @@ ghost use Rattle.std.specs.Prelude.{IfOk, OnOk, [], ◌∷◌, ◌≡◌};
 
 use crate::apply::changing_zone::ChangingZone;
 use crate::apply::rules::{Use, is_guarded, use_of};
-use crate::apply::zone::{has_type, key_of, unguarded_keys};
+use crate::apply::zone::{has_type, key_of, keys_of};
 use base::RecordType;
 use rr::Record;
 use std::alloc::AllocError;
@@ -61,8 +61,11 @@ impl<'a> ChangingZone<'a> {
         ensures { OnOk result (IsUpdated (entry.now ∷ []) self.old self.new) }
     {
         if entry.record_type() == RecordType::ANY {
-            let taken = unguarded_keys(&self.sets, self.origin, &entry.name)?;
-            for key in taken.as_slice() {
+            let keys = keys_of(&self.sets, &entry.name)?;
+            for key in keys.as_slice() {
+                if is_guarded(self.origin, &entry.name, key.record_type) {
+                    continue;
+                }
                 self.remove(key);
             }
             return Ok(());

@@ -1,34 +1,26 @@
 //! The record sets of a zone, each under its key.
 
-ghost use Rattle.base.specs.NameOrder.{same_name};
 ghost use Rattle.base.specs.RrKey.{key_of as the_key};
 ghost use Rattle.base.specs.declared.rr_key.RrKey.{RrKey as Key};
-ghost use Rattle.op_use.specs.Applying.{IsZoneMap, IsZoneSet, records_at};
 ghost use Rattle.op_use.specs.HeldZone.{HeldZone};
-ghost use Rattle.op_use.specs.MapUpdates.{Gains, HoldsAt, Lacks};
 ghost use Rattle.op_use.specs.Server.{is_cname as is_cname_type};
-ghost use Rattle.rr.specs.Record.{record_key, type_of_record};
 ghost use Rattle.op_use.specs.Zone.{is_owned};
-ghost use Rattle.rr.specs.RecordSet.{is_ns, is_soa};
-ghost use Rattle.rr.specs.SetChanges.{joined};
-ghost use Rattle.rr.specs.SetUpdates.{last_ttl, without};
 ghost use Rattle.std.specs.BTreeMap.{keys};
 ghost use Rattle.std.specs.List.{filter, list_any};
-ghost use Rattle.std.specs.Prelude.{IfOk, OnOk, [], length, not, ◌&&◌, ◌||◌, ◌∷◌, ◌≡◌};
+ghost use Rattle.std.specs.Prelude.{IfOk, not, ◌&&◌, ◌≡◌};
 
-use crate::apply::rules::is_guarded;
 use base::{DNSClass, LowerName, Name, RecordType, RrKey};
 use rr::RecordSet;
 use std::alloc::AllocError;
 use std::collections::BTreeMap;
 use std::marker::Model;
 
-/// The record sets of a zone.
+/// A zone.
 #[derive(Drop)]
 pub(crate) struct Zone<'a> {
     pub(super) origin: &'a Name,
     pub(super) class: DNSClass,
-    pub(super) sets: BTreeMap<RrKey, RecordSet>,
+    pub(super) sets: &'a BTreeMap<RrKey, RecordSet>,
 }
 
 impl<'a> Model for Zone<'a> {
@@ -39,9 +31,9 @@ impl<'a> Model for Zone<'a> {
 
     ghost coded = { held_code };
 
-    ghost view = { λ z. record { origin = z.origin.now; class = z.class; sets = z.sets } };
+    ghost view = { λ z. record { origin = z.origin.now; class = z.class; sets = z.sets.now } };
 
-    ghost invariant = { λ z. IsZoneMap z.class z.sets };
+    ghost invariant = { λ z. IsZoneMap z.class z.sets.now };
 }
 
 /// The key of an owner and a type.
@@ -53,8 +45,8 @@ pub(crate) fn key_of(owner: &Name, record_type: RecordType) -> Result<RrKey, All
 }
 
 /// Whether an owner has a set, of any type or of any but CNAME.
-pub(crate) fn has_type(
-    sets: &BTreeMap<RrKey, RecordSet>,
+pub(crate) fn has_type<V>(
+    sets: &BTreeMap<RrKey, V>,
     owner: &Name,
     is_beside: bool,
 ) -> Result<bool, AllocError>
@@ -75,25 +67,15 @@ pub(crate) fn has_type(
     Ok(false)
 }
 
-/// The keys of an owner, at the origin but those of SOA and NS.
-pub(crate) fn unguarded_keys(
-    sets: &BTreeMap<RrKey, RecordSet>,
-    origin: &Name,
-    owner: &Name,
-) -> Result<Vec<RrKey>, AllocError>
-    ensures { IfOk result (λ ks. ks.items
-        ≡ filter (λ (k : Key). is_owned owner.now k
-        && not (same_name owner.now origin.now
-        && (is_soa k.record_type || is_ns k.record_type))) (keys sets.now)) }
+/// The keys of an owner.
+pub(crate) fn keys_of<V>(sets: &BTreeMap<RrKey, V>, owner: &Name) -> Result<Vec<RrKey>, AllocError>
+    ensures { IfOk result (λ ks. ks.items ≡ filter (λ (k : Key). is_owned owner.now k) (keys sets.now)) }
 {
     let least = key_of(owner, RecordType::ZERO)?;
     let mut found = Vec::new(owner.allocator());
     for (key, _) in sets.range(&least..) {
         if least.name != key.name {
             return Ok(found);
-        }
-        if is_guarded(origin, owner, key.record_type) {
-            continue;
         }
         let copy = key.clone()?;
         found.push(copy)?;

@@ -27,7 +27,7 @@ const HIGHER: u8 = 100;
 const STAYS: u8 = 139;
 
 /// The zone's text.
-fn zone(alloc: Global) -> Result<String, AllocError> {
+pub(super) fn zone(alloc: Global) -> Result<String, AllocError> {
     let mut text = String::from_str(alloc, "@ 3600 SOA ns hostmaster 1 2 3 4 5\n@ NS ns\n")?;
     for place in 0..FIRST {
         let number = place.wrapping_add(LOWEST);
@@ -68,6 +68,14 @@ fn take_turn(update: &mut Vec<u8>, list: &mut Vec<u8>, place: u8) -> Result<(), 
         list.push(number)?;
     }
     Ok(())
+}
+
+/// The update with all the turns, and the list after them.
+pub(super) fn turns(alloc: Global) -> Result<(Vec<u8>, Vec<u8>), AllocError> {
+    let mut update = Vec::from_slice(alloc, UPDATE)?;
+    let mut list = Vec::new(alloc);
+    take_turns(&mut update, &mut list)?;
+    Ok((update, list))
 }
 
 /// All the turns.
@@ -118,9 +126,7 @@ fn leaves(alloc: Global, update: &[u8], list: &[u8]) -> Result<bool, Refusal> {
 
 #[test]
 fn deletions_take_turns_with_additions(rt: HostRuntime) -> Result<(), Fail> {
-    let mut update = Vec::from_slice(rt.alloc(), UPDATE)?;
-    let mut list: Vec<u8> = Vec::new(rt.alloc());
-    take_turns(&mut update, &mut list)?;
+    let (update, list) = turns(rt.alloc())?;
     assert!(rt; leaves(rt.alloc(), &update, &list)?);
     Ok(())
 }

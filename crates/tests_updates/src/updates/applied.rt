@@ -93,7 +93,7 @@ const NO_WWW: &str = " 03777777 C00C 0001 00FF 00000000 0000";
 /// The zone's text and updates of its addresses, and the TTL and the number of records that their
 /// set has then: its own TTL where the records are the same in the end, however that came, and else
 /// that of its last record.
-const TTLS: &[(&'static str, &'static [&'static str], (u32, usize))] = &[
+pub(super) const TTLS: &[(&'static str, &'static [&'static str], (u32, usize))] = &[
     // where an address is deleted, and where one is added or given anew
     (TWO, &[UPDATE, " 00FE 00000000 0004 C0000201"], (600, 1)),
     (TWO, &[UPDATE, " 00FE 00000000 0004 C0000202"], (300, 1)),
@@ -128,7 +128,7 @@ fn a_set_has_its_own_ttl_or_that_of_its_last_record(rt: HostRuntime) -> Result<(
 }
 
 /// The same SOA, two addresses of `www.example.`, and the first of them at `ftp.example.` too.
-const THREE: &str =
+pub(super) const THREE: &str =
     "@ 3600 SOA ns hostmaster 1 2 3 4 5\n@ NS ns\nwww 300 A 192.0.2.1\nwww 300 A 192.0.2.2\nftp 300 A 192.0.2.1\n";
 
 /// An update of `example.` up to its number of prerequisites, and the zone section after it.
@@ -151,7 +151,7 @@ const MET: ResponseCode = ResponseCode::NoError;
 const UNMET: ResponseCode = ResponseCode::NXRRSet;
 
 /// Updates without changes, and their answers.
-const LISTED: &[(&'static [&'static str], ResponseCode)] = &[
+pub(super) const LISTED: &[(&'static [&'static str], ResponseCode)] = &[
     // sets are looked at one by one, whatever the order of their data, and the same data may be listed twice
     (&[START, "0001", ZONE, FTP_1], MET),
     (&[START, "0002", ZONE, WWW_2, WWW_1], MET),
@@ -175,7 +175,7 @@ fn sets_are_asked_for_by_value(rt: HostRuntime) -> Result<(), Fail> {
 }
 
 /// The SOA of `example.` with two name servers, two addresses of `www.example.` and one of `ftp.example.`.
-const SERVERS: &str =
+pub(super) const SERVERS: &str =
     "@ 3600 SOA ns hostmaster 1 2 3 4 5\n@ NS ns\n@ NS ns2\nwww 300 A 192.0.2.1\nwww 300 A 192.0.2.2\nftp 300 A 192.0.2.1\n";
 
 /// An update of `example.` up to its number of updates, and the zone section after it.
@@ -198,7 +198,7 @@ const NOT_NS_2: &str = " C00C 0002 00FE 00000000 0006 036E7332 C00C";
 
 /// Deletions that follow one another, and how many addresses of `www.example.` and of `ftp.example.` and name servers
 /// are left (RFC 2136, 3.4.2.4).
-const LEFT: &[(&'static [&'static str], [usize; 3])] = &[
+pub(super) const LEFT: &[(&'static [&'static str], [usize; 3])] = &[
     (&[DELETES, "0002", OF_ZONE, NOT_WWW_1, NOT_WWW_2], [0, 1, 2]),
     (
         &[DELETES, "0003", OF_ZONE, NOT_WWW_1, NOT_WWW_2, NOT_FTP_1],

@@ -8,7 +8,7 @@ use Rattle.std.proofs.lemmas.Bool.{not-false}
 use Rattle.std.proofs.Common.{ap, false, not, sym, true, ◌&&◌, ◌≡◌, ◌∙◌}
 
 pub loop-key-init : goal.loop-key-init
-loop-key-init c = (
+loop-key-init g c = (
   any_start c.args.owner.now (λ k. not (c.args.is_beside && is_cname k.record_type)) c.in_ok-least.least _ c.args.sets.now.entries c.in_ok-least.ensures c.range-key-items.ensures.ordered
       (c.into_iter-key-iterator.ensures.into_iter_gives ∙ c.range-key-items.ensures.between tt),
   tt,
@@ -16,7 +16,7 @@ loop-key-init c = (
 )
 
 pub loop-key-preserved : goal.loop-key-preserved
-loop-key-preserved c =
+loop-key-preserved g c =
     let fails : not (c.args.is_beside && is_cname c.in-Some.key.now.record_type) ≡ false
     = λ i. not (c.if-is_beside.true i && (cname_is c.in-Some.key.now.record_type ∙ sym c.eq.ensures ∙ c.if-eq.true) i) in (
       any_next c.args.owner.now (λ k. not (c.args.is_beside && is_cname k.record_type)) c.loop-key.key-iterator c.next.new.self _ _ c.in-Some.ensures.steps
@@ -26,7 +26,7 @@ loop-key-preserved c =
     )
 
 pub returns-in-loop-key : goal.returns-in-loop-key
-returns-in-loop-key c =
+returns-in-loop-key g c =
     let counts : not (c.args.is_beside && is_cname c.in-Some.key.now.record_type) ≡ true = elim c.else-is_beside.branch [
       | else-is_beside-via-then-is_beside+else-eq w ↦ λ i. not (w.if-is_beside.true i && (cname_is c.in-Some.key.now.record_type ∙ sym w.eq.ensures ∙ w.if-eq.false) i)
       | else-is_beside-via-else-is_beside w ↦ λ i. not (w.if-is_beside.false i && is_cname c.in-Some.key.now.record_type)

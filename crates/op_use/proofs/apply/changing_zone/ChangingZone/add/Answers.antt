@@ -1,7 +1,7 @@
 use Rattle.base.specs.RrKey.{key_cmp, key_of}
 use Rattle.base.specs.declared.record_type.RecordType.TheVariants as types
 use Rattle.base.specs.declared.rr_key.RrKey.{RrKey}
-use Rattle.op_use.proofs.ChangingSteps.{alone, is_there, same_keys}
+use Rattle.op_use.proofs.ChangingSteps.{alone}
 use Rattle.op_use.proofs.HeldSteps.{same_updated, set_updated}
 use Rattle.op_use.proofs.MapZones.{set_at, types_at}
 use Rattle.op_use.proofs.TypeSteps.{cname_is}
@@ -25,7 +25,7 @@ returns-then-branch c =
     after_cname_stays z.origin z.class z.sets z.sets c.args.entry.now h c.requires
     (ap is_cname (sym c.record_type.ensures) ∙ cname_is c.record_type.result ∙ sym c.eq.ensures ∙ c.if-eq.true)
     (types_at z.origin z.class z.sets c.args.entry.now.name (λ t. not (is_cname t)) ∙ ap (λ (y : HeldZone). beside (keys y.sets)) (sym c.self.view_is)
-    ∙ ap beside (same_keys c.self.inside.changing c.self.inside.sets) ∙ sym c.in_ok-has_type.ensures ∙ c.if-branch.true))
+    ∙ sym c.in_ok-has_type.ensures ∙ c.if-branch.true))
 
 pub returns-then-eq : goal.returns-then-eq
 returns-then-eq c =
@@ -38,7 +38,7 @@ returns-then-eq c =
     after_cname z.origin z.class z.sets n c.args.entry.now h c.requires
     (ap is_cname (sym c.record_type.ensures) ∙ cname_is c.record_type.result ∙ sym c.eq.ensures ∙ c.if-eq.true)
     (types_at z.origin z.class z.sets c.args.entry.now.name (λ t. not (is_cname t)) ∙ ap (λ (y : HeldZone). beside (keys y.sets)) (sym c.self.view_is)
-    ∙ ap beside (same_keys c.self.inside.changing c.self.inside.sets) ∙ sym c.in_ok-has_type.ensures ∙ c.if-branch.false)
+    ∙ sym c.in_ok-has_type.ensures ∙ c.if-branch.false)
     put)) c.add_record.ensures
 
 pub returns-then-contains_key : goal.returns-then-contains_key
@@ -49,7 +49,6 @@ returns-then-contains_key c =
     after_beside_cname z.origin z.class z.sets z.sets c.args.entry.now h c.requires
     (ap is_cname (sym c.record_type.ensures) ∙ cname_is c.record_type.result ∙ sym c.eq.ensures ∙ c.if-eq.false)
     (set_at z.origin z.class z.sets alias ∙ ap (λ (y : HeldZone). is_some (get key_cmp y.sets alias)) (sym c.self-2.view_is)
-    ∙ is_there c.self-2.inside.changing c.self-2.inside.sets alias
     ∙ ap (λ k. is_some (get key_cmp c.self-2.inside.sets k)) (sym c.in_ok-cname.ensures) ∙ sym c.contains_key.ensures ∙ c.if-contains_key.true))
 
 pub returns : goal.returns
@@ -61,6 +60,5 @@ returns c =
     after_join z.origin z.class z.sets n c.args.entry.now h c.requires
     (ap is_cname (sym c.record_type.ensures) ∙ cname_is c.record_type.result ∙ sym c.eq.ensures ∙ c.if-eq.false)
     (set_at z.origin z.class z.sets alias ∙ ap (λ (y : HeldZone). is_some (get key_cmp y.sets alias)) (sym c.self-2.view_is)
-    ∙ is_there c.self-2.inside.changing c.self-2.inside.sets alias
     ∙ ap (λ k. is_some (get key_cmp c.self-2.inside.sets k)) (sym c.in_ok-cname.ensures) ∙ sym c.contains_key.ensures ∙ c.if-contains_key.false)
     put)) c.add_record-2.ensures

@@ -1,49 +1,66 @@
+use Rattle.base.specs.RrKey.{key_cmp}
+use Rattle.base.specs.declared.dns_class.DNSClass.{DNSClass}
+use Rattle.op_use.specs.Applying.{IsZoneMap, IsZoneSet}
 use Rattle.base.specs.declared.rr_key.RrKey.{RrKey}
-use Rattle.op_use.proofs.ChangingSteps.{changing_unchanged, opened_held, opened_same, shown}
+use Rattle.op_use.proofs.KeySets.{Sets, filled_more, filled_none, none_in}
 use Rattle.op_use.proofs.apply.changing_zone.ChangingZone.open.Goals as goal
-use Rattle.op_use.specs.Applying.{IsZoneSet}
-use Rattle.op_use.specs.ChangingSets.{IsSame}
+use Rattle.op_use.specs.MapUpdates.{Opens, has_key}
 use Rattle.op_use.specs.HeldZone.{HeldZone}
-use Rattle.op_use.specs.MapUpdates.{Puts}
 use Rattle.rr.specs.RecordSet.{SetValue}
-use Rattle.std.proofs.Common.{Some, ap, refl, rules, subst, sym, ◌∙◌, ◌≡◌}
+use Rattle.std.proofs.Common.{Bool, List, false, true, None, Some, [], ap, cond, refl, rules, subst, sym, take, ◌++◌, ◌+◌, ◌∙◌, ◌∷◌, ◌≡◌}
+use Rattle.std.proofs.lemmas.List.{take_all, take_more}
+use Rattle.std.specs.BTreeMap.{BTreeMap, get}
 
-pub returns-then-contains_key : goal.returns-then-contains_key
-returns-then-contains_key c = (c.args.self.now.sets, refl, λ q. refl)
+abbrev Is : BTreeMap RrKey SetValue → BTreeMap RrKey SetValue → List RrKey → Type 0
+Is m part ks = (q : RrKey) → get key_cmp part q ≡ cond (has_key q ks) (get key_cmp m q) None
 
-pub returns-in_default : goal.returns-in_default
-returns-in_default c = (c.args.self.now.sets, refl, λ q. refl)
+pub loop-key-init : goal.loop-key-init
+loop-key-init c = λ q. none_in c.new-sets.result q c.new-sets.ensures.empty
 
-pub returns-then-records_count-le-FEW : goal.returns-then-records_count-le-FEW
-returns-then-records_count-le-FEW c = (c.args.self.now.sets, refl, λ q. refl)
+pub loop-key-preserved : goal.loop-key-preserved
+loop-key-preserved c =
+    let ks = c.args.keys.now in
+    let i = c.loop-key.key-index in
+    let k = c.key-item.result in
+    let grown : take (c.loop-key.key-index + 1) c.args.keys.now ≡ take c.loop-key.key-index c.args.keys.now ++ c.key-item.result ∷ [] =
+    take_more ks i k c.loop-key-test.true ∙ ap (λ (x : RrKey). take i ks ++ x ∷ []) (sym c.key-item.is) in
+    let copy : c.in_ok-clone.field-0 ≡ c.key-item.result = search rules in
+    subst (λ xs. Is c.args.zone.now.sets c.insert.new.self xs) (sym grown)
+    (filled_more k c.of_zone.result (take i ks) c.args.zone.now.sets c.loop-key.sets c.insert.new.self
+    (ap (λ (z : HeldZone). get key_cmp z.sets k) (sym c.zone.view_is) ∙ sym c.in-Some.ensures.value ∙ ap Some (sym c.of_zone.ensures))
+    (subst (λ (x : RrKey). Sets x (Some c.of_zone.result) c.loop-key.sets c.insert.new.self) copy c.in_ok-insert.ensures.updates.0) c.loop-key.invariant)
 
-pub open-requires : goal.open-requires
-open-requires c = (c.self.invariant.0 c.args.key.now c.in-Some.set.now (sym c.in-Some.ensures.value)).distinct
+pub loop-key-preserved-in_default : goal.loop-key-preserved-in_default
+loop-key-preserved-in_default c =
+    let ks = c.args.keys.now in
+    let i = c.loop-key.key-index in
+    let k = c.key-item.result in
+    let grown : take (c.loop-key.key-index + 1) c.args.keys.now ≡ take c.loop-key.key-index c.args.keys.now ++ c.key-item.result ∷ [] =
+    take_more ks i k c.loop-key-test.true ∙ ap (λ (x : RrKey). take i ks ++ x ∷ []) (sym c.key-item.is) in
+    subst (λ xs. Is c.args.zone.now.sets c.loop-key.sets xs) (sym grown)
+    (filled_none k (take i ks) c.args.zone.now.sets c.loop-key.sets
+    (ap (λ (z : HeldZone). get key_cmp z.sets k) (sym c.zone.view_is) ∙ sym c.in_default.ensures.value) c.loop-key.invariant)
 
-pub invariant_of-self-in_err-insert : goal.invariant_of-self-in_err-insert
-invariant_of-self-in_err-insert c = (
-  c.self.invariant.0,
-  changing_unchanged c.self.inside.class c.self.inside.changing c.insert.new.self c.self.inside.sets c.self.inside.sets c.in_err-insert.ensures.err refl c.self.invariant.1,
-)
+part_at : (class : DNSClass) (q : RrKey) (s : SetValue) (m : BTreeMap RrKey SetValue) (b : Bool) → IsZoneMap class m → cond b (get key_cmp m q) None ≡ Some s → IsZoneSet class q s
+part_at class q s m true h e = h q s e
+part_at class q s m false h e = absurd cc
 
-pub invariant_of-self-2 : goal.invariant_of-self-2
-invariant_of-self-2 c =
-    let i = c.self.inside in
-    let set_is : c.in_ok-set.set ≡ c.in-Some.set.now = c.in_ok-set.ensures in
-    let key_is : c.in_ok-clone.field-0 ≡ c.args.key.now = search rules in
-    let puts = subst (λ (k : RrKey). Puts k (Some c.in_ok-set.set) i.changing c.insert.new.self) key_is c.in_ok-insert.ensures.updates.0 in (
-      c.self.invariant.0,
-      opened_held c.args.key.now c.in_ok-set.set i.changing c.insert.new.self (record { origin = i.origin.now; class = i.class; sets = i.sets })
-          (sym c.contains_key.ensures ∙ c.if-contains_key.false) (sym c.in-Some.ensures.value ∙ ap Some (sym set_is)) puts c.self.invariant.1
-          (subst (λ (s : SetValue). IsZoneSet i.class c.args.key.now s) (sym set_is) (c.self.invariant.0 c.args.key.now c.in-Some.set.now (sym c.in-Some.ensures.value))),
-    )
+opened : (z : HeldZone) (ks xs : List RrKey) (part : BTreeMap RrKey SetValue) → xs ≡ ks → Is z.sets part xs → Is z.sets part ks
+opened z ks xs part e h = subst (λ ys. Is z.sets part ys) e h
+
+pub invariant_of-result : goal.invariant_of-result
+invariant_of-result c =
+    let z = c.zone.inside in
+    let is = opened c.args.zone.now c.args.keys.now _ c.loop-key.sets (take_all c.loop-key.key-index c.args.keys.now c.loop-key-test.false) c.loop-key.invariant in
+    λ q s e. part_at z.class q s c.args.zone.now.sets (has_key q c.args.keys.now)
+    (subst (λ (y : HeldZone). IsZoneMap z.class y.sets) c.zone.view_is c.zone.invariant) (sym (is q) ∙ e)
 
 pub returns : goal.returns
 returns c =
-    let i = c.self.inside in
-    let z : HeldZone = record { origin = i.origin.now; class = i.class; sets = i.sets } in
-    let set_is : c.in_ok-set.set ≡ c.in-Some.set.now = c.in_ok-set.ensures in
-    let key_is : c.in_ok-clone.field-0 ≡ c.args.key.now = search rules in
-    let puts = subst (λ (k : RrKey). Puts k (Some c.in_ok-set.set) i.changing c.insert.new.self) key_is c.in_ok-insert.ensures.updates.0 in
-    subst (λ (x : HeldZone). IsSame x (shown z c.insert.new.self)) c.self.view_is
-    (opened_same c.args.key.now c.in_ok-set.set i.changing c.insert.new.self z (sym c.contains_key.ensures ∙ c.if-contains_key.false) (sym c.in-Some.ensures.value ∙ ap Some (sym set_is)) puts)
+    let z = c.zone.inside in
+    subst (λ (y : HeldZone). Opens c.args.keys.now y (record { origin = z.origin.now; class = z.class; sets = c.loop-key.sets })) c.zone.view_is (
+      c.loop-key.sets,
+      refl,
+      subst (λ (y : HeldZone). Is y.sets c.loop-key.sets c.args.keys.now) (sym c.zone.view_is)
+          (opened c.args.zone.now c.args.keys.now _ c.loop-key.sets (take_all c.loop-key.key-index c.args.keys.now c.loop-key-test.false) c.loop-key.invariant),
+    )

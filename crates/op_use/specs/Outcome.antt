@@ -1,0 +1,74 @@
+-- What an update makes of a zone's map: which sets are put into it, and which go.
+use Rattle.base.specs.Labels.{NameValue}
+use Rattle.base.specs.RrKey.{key_cmp}
+use Rattle.base.specs.declared.dns_class.DNSClass.{DNSClass}
+use Rattle.base.specs.declared.rr_key.RrKey.{RrKey}
+use Rattle.base_data.specs.declared.rdata.RData.{RData}
+use Rattle.op.specs.declared.response_code.ResponseCode.TheVariants.{NoError}
+use Rattle.op_use.specs.Applying.{IsApplied, IsZoneMap, KeepsSame, names_owner, records_in}
+use Rattle.op_use.specs.HeldZone.{HeldZone}
+use Rattle.op_use.specs.MapUpdates.{IsAfter, has_key, names_set}
+use Rattle.op_use.specs.Server.{Sections}
+use Rattle.op_use.specs.declared.apply.Answer.TheVariants as answers
+use Rattle.op_use.specs.declared.apply.Answer.{Answer}
+use Rattle.op_use.specs.declared.apply.outcome.Outcome.{Outcome}
+use Rattle.rr.specs.RecordSet.{SetValue}
+use Rattle.rr.specs.declared.record.Record.{Record}
+use Rattle.std.specs.BTreeMap as tree
+use Rattle.std.specs.BTreeMap.{BTreeMap}
+use Rattle.std.specs.Prelude.{List, None, false, Option, Some, is_some, true, unwrap_or, ◌&&◌, ◌≡◌, ◌≢◌, ◌⊎◌}
+
+-- a set that is added, or what is there
+abbrev pub added_at : Option SetValue → Option SetValue → Option SetValue
+added_at (Some s) old = Some s
+added_at None old = old
+
+-- what stands under a key by an outcome, where old stood there
+abbrev pub outcome_at : Outcome → RrKey → Option SetValue → Option SetValue
+outcome_at o q old =
+    added_at (tree.get key_cmp o.added q) (unwrap_or (tree.get key_cmp o.changed q) old)
+
+-- the new map is the old one by an outcome
+abbrev pub Installs : Outcome → BTreeMap RrKey SetValue → BTreeMap RrKey SetValue → Type 0
+Installs o old new = (q : RrKey)
+    → tree.get key_cmp new q ≡ outcome_at o q (tree.get key_cmp old q)
+
+-- an outcome of a map: it adds under keys that the map lacks, and changes what the map has
+pub record IsOutcome (o : Outcome) (m : BTreeMap RrKey SetValue) : Type 0 where
+  pub absent : (q : RrKey) → is_some (tree.get key_cmp o.added q) ≡ true
+      → tree.get key_cmp m q ≡ None
+  pub there : (q : RrKey) → is_some (tree.get key_cmp o.changed q) ≡ true
+      → is_some (tree.get key_cmp m q) ≡ true
+
+-- a map by the outcome is the old one after the updates rs, in which a set of the same records is the same
+abbrev pub UpdatesTo : List (Record RData) → HeldZone → Outcome → Type 0
+UpdatesTo rs z o = (n : BTreeMap RrKey SetValue) → Installs o z.sets n
+    → IsAfter z.origin z.class rs z.sets n × KeepsSame z.sets n
+
+-- these are the keys of a map whose owners the updates rs name
+abbrev pub NamesKeys : List (Record RData) → BTreeMap RrKey SetValue → List RrKey → Type 0
+NamesKeys rs m ks = (q : RrKey)
+    → has_key q ks ≡ (names_owner rs q && is_some (tree.get key_cmp m q))
+
+-- what stands under a key by an outcome is what it was, where the records are those of now, and else what stands now
+abbrev pub IsSettled : Option SetValue → Option SetValue → Option SetValue → Type 0
+IsSettled old now new = ((new ≡ old) × (records_in now ≡ records_in old))
+    ⊎ ((new ≡ now) × (records_in now ≢ records_in old))
+
+-- The new outcome is the old one with each set of the map now that an update names, but where the map that was has the
+-- same records.
+pub record Settles (rs : List (Record RData)) (was now : BTreeMap RrKey SetValue) (old new : Outcome)
+    : Type 0 where
+  pub is_outcome : IsOutcome old was → IsOutcome new was
+  pub named : (q : RrKey) → (names_set rs q && is_some (tree.get key_cmp now q)) ≡ true
+      → IsSettled (tree.get key_cmp was q) (tree.get key_cmp now q)
+      (outcome_at new q (tree.get key_cmp was q))
+  pub others : (q : RrKey) → (names_set rs q && is_some (tree.get key_cmp now q)) ≡ false
+      → outcome_at new q (tree.get key_cmp was q) ≡ outcome_at old q (tree.get key_cmp was q)
+
+-- what comes of an update of a map: nothing with a code, or the outcome of a map that is as a server makes it
+abbrev pub IsAnswer : NameValue → DNSClass → Sections → BTreeMap RrKey SetValue → Answer → Type 0
+IsAnswer origin class s old (answers.Refused code) = IsApplied origin class s old code old
+IsAnswer origin class s old (answers.Done o) = IsOutcome o old
+    × ((new : BTreeMap RrKey SetValue) → Installs o old new
+    → IsApplied origin class s old NoError new)
