@@ -8,7 +8,7 @@
  * a `cap` of 0 first. No text ends in a zero byte. Beside the refusals that it names, any call may refuse with 3.
  *
  * Who owns what. The caller owns every buffer, and no call keeps one or hands one out: what a call allocates, it frees
- * before it returns. The caller owes this, which nothing checks:
+ * before it returns, but for what an open zone handle holds. The caller owes this, which nothing checks:
  *   - no pointer is null, not even beside a length of 0, and as many bytes as are said stand there, fewer than 2^63, at
  *     a place that is aligned for their type;
  *   - what a call writes to (`out`, `needed`, what is found) overlaps nothing else that the call is handed, and no other
@@ -19,7 +19,8 @@
  *     `rattle_alloc`, `rattle_realloc` and `rattle_dealloc` itself, which are declared at the end;
  *   - 32 KiB of stack are left; 2 to 10 were seen to be taken;
  *   - no call comes from a signal handler, or from the forked child of a process with threads.
- * Calls share nothing, so threads may call at once. The archive is for Linux on x86-64. */
+ * Calls share nothing but a handle that both are handed, so threads may call at once. The archive is for Linux on
+ * x86-64. */
 #ifndef FUZSBANEL_H
 #define FUZSBANEL_H
 
@@ -64,7 +65,8 @@ enum fuzsbanel_refusal {
     FUZSBANEL_NOT_SOA = 30,           /* a record that isn't the zone's SOA */
     FUZSBANEL_NOT_ON_WIRE = 31,       /* a name in data that is relative, which no message can have; an OPT record */
     FUZSBANEL_TOO_LONG = 32,          /* an update or question of more than 65,535 bytes */
-    FUZSBANEL_TWO_ANAMES = 33         /* an update that leaves an owner with two ANAME records, which zone text can't say */
+    FUZSBANEL_TWO_ANAMES = 33,        /* an update that leaves an owner with two ANAME records, which zone text can't say */
+    FUZSBANEL_CLOSED = 34             /* a zone handle that isn't open */
 };
 
 /* ---- messages (RFC 1035, 4.1) */
@@ -213,6 +215,46 @@ int64_t fuzsbanel_zone(const uint8_t *origin, size_t origin_len, const uint8_t *
  * of another class than IN, and with 33. */
 int64_t fuzsbanel_apply(const uint8_t *update, size_t update_len, const uint8_t *origin, size_t origin_len,
                         const uint8_t *text, size_t text_len, uint8_t *out, size_t cap, size_t *needed);
+
+/* ---- a zone that is held from call to call
+ *
+ * A handle begins closed, as `struct fuzsbanel_zone_handle zone = {0};`, and is open between fuzsbanel_zone_open and
+ * fuzsbanel_zone_close. Its fields are the library's: a caller reads and writes none. It may be moved (the bytes copied, if
+ * the old place isn't used again), never copied: of two copies the second that is used is a use of freed memory. One call
+ * at a time uses a handle, one that only reads too; it may go to another thread where a lock, the thread's start or join,
+ * or a seq_cst atomic orders that. Each open handle is closed once, or its memory is lost. `malloc` and `free` are the same
+ * from open to close. */
+struct fuzsbanel_zone_handle {
+    void *at;
+    bool is_open;
+};
+
+/* Opens the handle at the zone `origin`, whose records are those of the text, and answers 0; what the handle held before is
+ * freed. An `$ORIGIN` of the text says how its names end, and never which zone it is. Refuses as fuzsbanel_zone does, with
+ * 26, and with 25 for a zone of another class than IN; the handle then holds what it held. */
+int64_t fuzsbanel_zone_open(const uint8_t *origin, size_t origin_len, const uint8_t *text, size_t text_len,
+                            struct fuzsbanel_zone_handle *handle);
+
+/* Carries out an update message in the zone, and answers the code of RFC 2136, 2.2: 0 is NoError, and the zone is changed
+ * (RFC 2136, 3). With any other code, and where it refuses, each record stays as it was. What it costs depends on what the
+ * update names, and not on the zone's size. Whether the message is an update, whoever sent it, is the caller's to ask, and
+ * so is the SOA's serial, which stays. Refuses with 34, and as fuzsbanel_check does. */
+int64_t fuzsbanel_zone_update(struct fuzsbanel_zone_handle *handle, const uint8_t *update, size_t update_len);
+
+/* Writes the zone as fuzsbanel_zone writes one: a handle opened at this text, with the same origin, holds the same records.
+ * Refuses with 34, and with 33 where updates left an owner with two ANAME records. */
+int64_t fuzsbanel_zone_text(struct fuzsbanel_zone_handle *handle, uint8_t *out, size_t cap, size_t *needed);
+
+/* Writes the bytes that an authoritative server of the zone sends for those that it received: the answer to a query (RFC
+ * 1034, 4.3.2; RFC 2308; RFC 4592), or a code alone, as FormErr for bytes that are no message. 0 bytes are written where
+ * nothing is sent: for a response, or for less than a header. A datagram has at most as many bytes as `most` and the
+ * query's EDNS say, and 512 at least; TC says where records are left out. With `by_stream` there may be 65,535. Updates
+ * and zone transfers are answered NotImp. Refuses with 34. */
+int64_t fuzsbanel_zone_answer(struct fuzsbanel_zone_handle *handle, const uint8_t *received, size_t received_len,
+                              uint16_t most, bool by_stream, uint8_t *out, size_t cap, size_t *needed);
+
+/* Closes the handle, and frees what it held. A closed handle stays closed. */
+void fuzsbanel_zone_close(struct fuzsbanel_zone_handle *handle);
 
 /* ---- updates (RFC 2136, 2)
  *

@@ -37,10 +37,11 @@ import ctypes
 import operator
 import os
 import sys
-from typing import Iterator, NamedTuple, Tuple, Union
+import threading
+from typing import Iterator, NamedTuple, Optional, Tuple, Union
 
 __all__ = [
-    "EdnsOption", "Header", "Query", "Record", "Refusal", "append", "apply", "check", "compare_and_swap", "create", "cut",
+    "EdnsOption", "Header", "Query", "Record", "Refusal", "Zone", "append", "apply", "check", "compare_and_swap", "create", "cut",
     "data_text", "delete_all", "delete_by_rdata", "delete_rrset", "header", "name", "options", "queries", "query", "record",
     "records", "text", "walk", "zone", "zone_transfer",
 ]
@@ -96,6 +97,7 @@ NAMES = {
     31: "a name in data that is relative, which no message can have",
     32: "an update or question of more than 65,535 bytes",
     33: "an update that leaves an owner with two ANAME records",
+    34: "a zone handle that isn't open",
 }
 
 
@@ -166,6 +168,10 @@ class Room(ctypes.Structure):
 
 class OptionFields(ctypes.Structure):
     _fields_ = [("data", ctypes.c_size_t), ("code", ctypes.c_uint16), ("data_len", ctypes.c_uint16)]
+
+
+class ZoneHandle(ctypes.Structure):
+    _fields_ = [("at", ctypes.c_void_p), ("is_open", ctypes.c_bool)]
 
 
 class Header(NamedTuple):
@@ -244,6 +250,7 @@ def number(value: int, type_: type) -> int:
 BYTES = [ctypes.c_char_p, ctypes.c_size_t]
 OUT = [ctypes.c_char_p, ctypes.c_size_t, ctypes.POINTER(ctypes.c_size_t)]
 U16, EDNS, PLACE = [ctypes.c_uint16], [ctypes.c_bool], [ctypes.c_size_t]
+HANDLE = [ctypes.POINTER(ZoneHandle)]
 CALLS = {
     "check": BYTES,
     "cut": BYTES + U16 + OUT,
@@ -257,6 +264,10 @@ CALLS = {
     "walk": BYTES + [ctypes.POINTER(ItemFields)] + PLACE + BYTES + [ctypes.POINTER(Room)],
     "zone": BYTES + BYTES + OUT,
     "apply": BYTES + BYTES + BYTES + OUT,
+    "zone_open": BYTES + BYTES + HANDLE,
+    "zone_update": HANDLE + BYTES,
+    "zone_text": HANDLE + OUT,
+    "zone_answer": HANDLE + BYTES + U16 + [ctypes.c_bool] + OUT,
     "create": U16 + BYTES + BYTES + EDNS + OUT,
     "append": U16 + BYTES + BYTES + [ctypes.c_bool] + EDNS + OUT,
     "compare_and_swap": U16 + BYTES + BYTES + BYTES + EDNS + OUT,
@@ -268,6 +279,7 @@ CALLS = {
 for word, types in CALLS.items():
     call = getattr(LIBRARY, "fuzsbanel_" + word)
     call.argtypes, call.restype = types, ctypes.c_int64
+LIBRARY.fuzsbanel_zone_close.argtypes, LIBRARY.fuzsbanel_zone_close.restype = HANDLE, None
 
 
 def asked(word, *arguments) -> int:
@@ -415,6 +427,70 @@ def zone(origin: str, zone_text: str) -> str:
 def apply(update: bytes, origin: str, zone_text: str) -> str:
     """What a server makes of an update and the zone of a text: a line with its code, and the zone then."""
     return filled(2 * len(zone_text), "apply", update, origin, zone_text).decode()
+
+
+class Zone:
+    """A zone that is held: opened at a text, updated where it is, written as text, and closed. Threads may share one; its
+    calls come one after the other.
+
+    >>> www = "www 300 A 192.0.2.2"
+    >>> with Zone("example.", "@ 300 SOA ns hostmaster 1 2 3 4 5") as held:
+    ...     held.update(create(1, "example.", www)), held.update(create(1, "example.", www))
+    ...     print(held.text(), end="")
+    (0, 7)
+    $ORIGIN example.
+    example. 300 IN SOA ns.example. hostmaster.example. 1 2 3 4 5
+    www.example. 300 IN A 192.0.2.2
+    >>> query = bytes.fromhex("00090100000100000000000003777777076578616d706c650000010001")
+    >>> with Zone("example.", "@ 300 SOA ns hostmaster 1 2 3 4 5\\n" + www) as held:
+    ...     print(text(held.answer(query, 512)).splitlines()[4])
+    www.example. 300 IN A 192.0.2.2
+    >>> held.close()
+    >>> held.text()
+    Traceback (most recent call last):
+    ...
+    fuzsbanel.Refusal: 34: a zone handle that isn't open
+    >>> Zone("", www)
+    Traceback (most recent call last):
+    ...
+    fuzsbanel.Refusal: 26: an origin of no bytes, where a zone has to be named
+    """
+
+    def __init__(self, origin: str, zone_text: str) -> None:
+        self._handle, self._lock = ZoneHandle(), threading.Lock()
+        asked("zone_open", origin, zone_text, ctypes.byref(self._handle))
+
+    def update(self, update: bytes) -> int:
+        """Carries out an update message, and answers the server's code: with 0, NoError, the zone is changed (RFC 2136, 3),
+        with any other, and where it refuses, it is as it was. The SOA's serial stays."""
+        with self._lock:
+            return asked("zone_update", ctypes.byref(self._handle), update)
+
+    def answer(self, received: bytes, most: Optional[int] = None) -> bytes:
+        """The bytes that an authoritative server of the zone sends for those that it received; none where it sends nothing.
+        `most` is how many bytes a datagram may have; without it a stream carries them."""
+        with self._lock:
+            limit = 65535 if most is None else most
+            return filled(512, "zone_answer", ctypes.byref(self._handle), received, limit, most is None)
+
+    def text(self) -> str:
+        """The zone as text, which can be opened again with the same origin."""
+        with self._lock:
+            return filled(4096, "zone_text", ctypes.byref(self._handle)).decode()
+
+    def close(self) -> None:
+        """Lets the zone go. What is closed already stays so."""
+        with self._lock:
+            LIBRARY.fuzsbanel_zone_close(ctypes.byref(self._handle))
+
+    def __enter__(self) -> "Zone":
+        return self
+
+    def __exit__(self, *error) -> None:
+        self.close()
+
+    def __del__(self) -> None:
+        self.close()
 
 
 def create(id_: int, origin: str, set_text: str, use_edns: bool = False) -> bytes:

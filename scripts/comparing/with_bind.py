@@ -1,4 +1,4 @@
-"""Whether `dnsmsg apply` makes of a zone what BIND makes of it by random updates (RFC 2136)."""
+"""Whether `dnsmsg apply` makes of a zone what BIND makes of it by random updates (RFC 2136), and a zone that is held."""
 import random
 import subprocess
 import sys
@@ -49,10 +49,20 @@ def differs(program, update, before, after, code):
     return None if same else f"{code}\n{update}\n{updates.text(before)}\n{ran.stdout.decode()}"
 
 
+def held_differs(zone, update, after, code):
+    """What comes of it in a zone that is held since the first update, if that is otherwise."""
+    got = zone.update(update.to_wire())
+    same = got == dns.rcode.from_text(code) and updates.printed(zone.lines()) == updates.meaning(after)
+    return None if same else f"held: {got} and not {code}\n{update}\n{zone.lines()}\n{updates.text(after)}"
+
+
 def compare(program, seed, count):
-    """Asks so many updates; answers the status."""
+    """Asks so many updates, of `program` or, without one, of a zone that is held; answers the status."""
     random.seed(seed)
     differ, codes = [], {}
+    if not program:
+        from held import Held
+        kept = Held("example.", updates.ZONE)
     with tempfile.TemporaryDirectory() as folder:
         named, zone = started(folder)
         try:
@@ -61,7 +71,8 @@ def compare(program, seed, count):
                 code = dns.rcode.to_text(dns.query.tcp(update, SERVER[0], port=SERVER[1]).rcode())
                 codes[code] = codes.get(code, 0) + 1
                 after = updates.fetched(SERVER)
-                differ += filter(None, [differs(program, update, zone, after, code)])
+                told = differs(program, update, zone, after, code) if program else held_differs(kept, update, after, code)
+                differ += filter(None, [told])
                 zone = after
         finally:
             named.terminate()

@@ -65,9 +65,10 @@ def under(valgrind, program, words, given):
     return ran.stderr.decode(), ran.stdout
 
 
-def instructions(program, words, given):
-    """Instructions of one run, counted by callgrind, and what it printed."""
-    said, printed = under(["--tool=callgrind", "--callgrind-out-file=/dev/null"], program, words, given)
+def instructions(program, words, given, within=None):
+    """Instructions of one run, or of the calls of one function in it, counted by callgrind, and what it printed."""
+    alone = [f"--toggle-collect={within}"] if within else []
+    said, printed = under(["--tool=callgrind", "--callgrind-out-file=/dev/null", *alone], program, words, given)
     return int(re.search(r"Collected : (\d+)", said)[1]), printed
 
 

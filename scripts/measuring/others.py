@@ -44,11 +44,11 @@ def build_ldns(folder):
     return f"{folder}/with_ldns"
 
 
-def build_archive(copy):
-    """The program over the library for C, of a copy of the repository."""
+def build_archive(copy, name="archive"):
+    """The program of this name over the library for C, of a copy of the repository."""
     run_or_end(["rt", "lib"], f"{copy}/crates/capi")
     run_or_end(["make", "build/libfuzsbanel.a"], f"{copy}/bindings/c")
     built = f"{copy}/bindings/c/build"
-    command = ["cc", "-O2", "-I", f"{copy}/include", "-o", f"{built}/archive", f"{SOURCES}/archive.c", f"{built}/libfuzsbanel.a"]
+    command = ["cc", "-O2", "-I", f"{copy}/include", "-o", f"{built}/{name}", f"{SOURCES}/{name}.c", f"{built}/libfuzsbanel.a"]
     run_or_end(command, copy)
-    return f"{built}/archive"
+    return f"{built}/{name}"

@@ -15,11 +15,11 @@ EMPTY = update(0, 0, "")
 
 
 def address(number):
-    return f"0A00{number:04X}"
+    return f"0A{number:06X}"
 
 
 def dotted(number):
-    return f"10.0.{number >> 8}.{number & 255}"
+    return f"10.{number >> 16}.{number >> 8 & 255}.{number & 255}"
 
 
 def record(owner, kind, of_class, ttl=0, data=""):

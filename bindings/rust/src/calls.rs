@@ -6,6 +6,13 @@ use crate::walk::{Header, ItemFound, OptionFound, QueryFound, RecordFound, Room}
 /// What is answered where the buffer has no room.
 pub const NO_ROOM: i64 = -100;
 
+/// A handle to a zone: its fields are the library's.
+#[repr(C)]
+pub struct ZoneHandle {
+    pub at: *mut u8,
+    pub is_open: bool,
+}
+
 // A `&[u8]` crosses as a pointer and then a length. Nothing compares these declarations with those of crates/capi.
 extern "C" {
     pub fn fuzsbanel_check(message: *const u8, len: usize) -> i64;
@@ -88,6 +95,35 @@ extern "C" {
         cap: usize,
         needed: *mut usize,
     ) -> i64;
+    pub fn fuzsbanel_zone_open(
+        origin: *const u8,
+        origin_len: usize,
+        text: *const u8,
+        text_len: usize,
+        handle: *mut ZoneHandle,
+    ) -> i64;
+    pub fn fuzsbanel_zone_update(
+        handle: *mut ZoneHandle,
+        update: *const u8,
+        update_len: usize,
+    ) -> i64;
+    pub fn fuzsbanel_zone_text(
+        handle: *mut ZoneHandle,
+        out: *mut u8,
+        cap: usize,
+        needed: *mut usize,
+    ) -> i64;
+    pub fn fuzsbanel_zone_answer(
+        handle: *mut ZoneHandle,
+        received: *const u8,
+        received_len: usize,
+        most: u16,
+        by_stream: bool,
+        out: *mut u8,
+        cap: usize,
+        needed: *mut usize,
+    ) -> i64;
+    pub fn fuzsbanel_zone_close(handle: *mut ZoneHandle);
     pub fn fuzsbanel_create(
         id: u16,
         origin: *const u8,

@@ -73,6 +73,7 @@ errors! {
     31 NotOnWire "a name in data that is relative, which no message can have",
     32 TooLong "an update or question of more than 65,535 bytes",
     33 TwoAnames "an update that leaves an owner with two ANAME records",
+    34 Closed "a zone handle that isn't open",
 }
 
 impl std::error::Error for Error {}

@@ -15,10 +15,12 @@
 
 mod calls;
 mod error;
+mod held;
 mod update;
 mod walk;
 
 pub use error::Error;
+pub use held::Zone;
 pub use update::{
     append, compare_and_swap, create, delete_all, delete_by_rdata, delete_rrset, zone_transfer,
 };

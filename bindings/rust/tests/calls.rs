@@ -120,6 +120,36 @@ fn a_message_is_shown() {
 }
 
 #[test]
+fn a_zone_is_held() {
+    let mut zone = fuzsbanel::Zone::open("example.", ZONE).unwrap();
+    assert_eq!(zone.update(CREATION), Ok(0));
+    assert_eq!(zone.update(CREATION), Ok(7)); // YXRRSet (RFC 2136, 2.2)
+    assert_eq!(zone.update(&CREATION[..11]), Err(Error::Short));
+    let applied = fuzsbanel::apply(CREATION, "example.", ZONE).unwrap();
+    let text = zone.text().unwrap();
+    assert_eq!(applied, format!("NoError\n{text}"));
+    let moved = std::thread::spawn(move || zone.text());
+    assert_eq!(moved.join().unwrap(), Ok(text));
+    let refused = fuzsbanel::Zone::open("", ZONE).err();
+    assert_eq!(refused, Some(Error::NoOrigin));
+}
+
+#[test]
+fn a_zone_answers() {
+    let mut zone = fuzsbanel::Zone::open("example.", ZONE).unwrap();
+    // RFC 2308, 2.1: no name, and the SOA; a response, and less than a header, are answered by nothing
+    let query = b"\0\x09\x01\0\0\x01\0\0\0\0\0\0\x03www\x07example\0\0\x01\0\x01";
+    let answer = zone.answer(query, Some(512)).unwrap().unwrap();
+    let header = fuzsbanel::header(&answer).unwrap();
+    assert_eq!((header.id, header.rcode, header.authoritative), (9, 3, true));
+    assert_eq!((header.answers, header.authorities), (0, 1));
+    assert_eq!(zone.answer(RESPONSE, None), Ok(None));
+    assert_eq!(zone.answer(&query[..11], None), Ok(None));
+    let malformed = zone.answer(&query[..20], None).unwrap().unwrap();
+    assert_eq!(malformed, b"\0\x09\x81\x01\0\0\0\0\0\0\0\0");
+}
+
+#[test]
 fn the_longest_text_of_a_name() {
     // RFC 1035, 2.3.4 and 5.1: 255 bytes, each of the labels' written \DDD
     let labels = [63, 63, 63, 61].map(|len| [vec![len], vec![0; usize::from(len)]].concat());

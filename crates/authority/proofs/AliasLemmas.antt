@@ -1,6 +1,7 @@
 -- The first alias of a set, and where it leads.
-use Rattle.authority.specs.Lookup.{alias_at, alias_in, alias_or, first_target, least_ttl, record_of, records, records_of, shown, target_of}
-use Rattle.base.specs.Labels.{NameValue}
+use Rattle.authority.specs.Lookup.{alias_at, alias_in, alias_or, first_target, least_ttl, record_of, records}
+use Rattle.authority.specs.Lookup.{records_of, shown, target_of}
+use Rattle.base.specs.names.Labels.{NameValue}
 use Rattle.base.specs.RrKey.{key_of}
 use Rattle.base.specs.declared.dns_class.DNSClass.{DNSClass}
 use Rattle.base.specs.declared.record_type.RecordType.TheVariants as types

@@ -1,9 +1,9 @@
 -- The first key from a name on tells whether something stands at the name or below it.
 use Rattle.authority.specs.Lookup.{exists_among}
-use Rattle.base.proofs.BelowLemmas.{below_between, below_le}
-use Rattle.base.specs.Labels.{NameValue}
-use Rattle.base.specs.NameOrder.{folded, lower_cmp, lowered}
-use Rattle.base.specs.Parents.{is_at_or_below, is_within}
+use Rattle.base.proofs.names.BelowLemmas.{below_between, below_le}
+use Rattle.base.specs.names.Labels.{NameValue}
+use Rattle.base.specs.names.NameOrder.{folded, lower_cmp, lowered}
+use Rattle.base.specs.names.Parents.{is_at_or_below, is_within}
 use Rattle.base.specs.RecordType.{type_cmp}
 use Rattle.base.specs.RrKey.{key_cmp}
 use Rattle.base.specs.declared.rr_key.RrKey.{RrKey}

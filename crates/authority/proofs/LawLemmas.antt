@@ -1,8 +1,10 @@
 -- What follows of what a zone has for a name.
 use Rattle.authority.proofs.WayLemmas.{Starts, starts}
-use Rattle.authority.specs.Lookup.{Cut, NoName, Outside, alias_else, at_source, cut_else, cut_over, ends_below, exists, has_servers, if_below, if_exists, lookup, name_with, source, way, wildcard_below, encloser, is_ds, side_asked}
-use Rattle.base.specs.Labels.{NameValue}
-use Rattle.base.specs.Parents.{is_below, is_within, parent}
+use Rattle.authority.specs.Lookup.{Cut, NoName, Outside, alias_else, at_source, cut_else, cut_over, ends_below, exists}
+use Rattle.authority.specs.Lookup.{has_servers, if_below, if_exists, lookup, name_with, source, way, wildcard_below}
+use Rattle.authority.specs.Lookup.{encloser, is_ds, side_asked}
+use Rattle.base.specs.names.Labels.{NameValue}
+use Rattle.base.specs.names.Parents.{is_below, is_within, parent}
 use Rattle.base.specs.declared.record_type.RecordType.{RecordType}
 use Rattle.base_data.specs.declared.rdata.RData.{RData}
 use Rattle.op_use.specs.Zone.{Zone}
@@ -68,7 +70,7 @@ cut_by z t n m false c h = cc
 cut_by z t n m true None h = absurd (source_cut z t n m (source z n) h)
 cut_by z t n m true (Some x) h = cc
 
-cut_is : (z : Zone) (t : RecordType) (n m : NameValue) → lookup z t n ≡ Cut m → cut_over z t n ≡ Some m
+pub cut_is : (z : Zone) (t : RecordType) (n m : NameValue) → lookup z t n ≡ Cut m → cut_over z t n ≡ Some m
 cut_is z t n m h = cut_by z t n m (is_within z.origin n) (cut_over z t n) h
 
 -- what is found on the way lies below the origin, and has servers

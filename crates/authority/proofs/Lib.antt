@@ -1,6 +1,12 @@
+pub mod AdditionalLemmas
 pub mod AliasLemmas
+pub mod AnswerLaws
+pub mod AnswerLemmas
+pub mod CutLemmas
 pub mod FirstKey
 pub mod LawLemmas
+pub mod RecordLemmas
+pub mod SentLemmas
 pub mod SetLemmas
 pub mod SourceLemmas
 pub mod WayLemmas

@@ -1,9 +1,9 @@
 -- The sets of a map as those of the zone that it holds.
 use Rattle.authority.specs.Found.{answered}
 use Rattle.authority.specs.Lookup.{exists, exists_among, records, records_of}
-use Rattle.base.proofs.KeyLemmas.{key_cmp-exact, key_cmp-total}
-use Rattle.base.specs.Labels.{NameValue}
-use Rattle.base.specs.Parents.{is_at_or_below}
+use Rattle.base.proofs.names.KeyLemmas.{key_cmp-exact, key_cmp-total}
+use Rattle.base.specs.names.Labels.{NameValue}
+use Rattle.base.specs.names.Parents.{is_at_or_below}
 use Rattle.base.specs.RrKey.{key_cmp}
 use Rattle.base.specs.declared.dns_class.DNSClass.{DNSClass}
 use Rattle.base.specs.declared.rr_key.RrKey.{RrKey}
@@ -28,7 +28,8 @@ use Rattle.std.specs.Borrow.{Bor}
 use Rattle.std.specs.List.{AllByRecursion, filter, flat_map, take_while}
 use Rattle.std.specs.Map.{keys_of, values_of}
 use Rattle.std.specs.Ordering.{is_lt}
-use Rattle.std.specs.Prelude.{Bool, List, None, Option, Some, [], cond, false, map, option_map, true, unwrap_or, ◌&&◌, ◌∷◌, ◌≡◌}
+use Rattle.std.specs.Prelude.{Bool, List, None, Option, Some, [], cond, false, map, option_map, true, unwrap_or, ◌&&◌}
+use Rattle.std.specs.Prelude.{◌∷◌, ◌≡◌}
 use Rattle.std.specs.declared.cmp.Ordering.TheVariants.{Less}
 use Rattle.std.specs.declared.ops.Bound.TheVariants.{Included, Unbounded}
 

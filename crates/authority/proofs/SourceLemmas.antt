@@ -1,11 +1,12 @@
 -- Where the data of a name stands: there, or at the asterisk below its closest encloser.
 use Rattle.authority.proofs.SetLemmas.{exists_is}
 use Rattle.authority.proofs.WayLemmas.{starts}
-use Rattle.authority.specs.Lookup.{encloser, encloses, end_that_exists, exists, exists_among, if_exists, name_with, source, wildcard_below}
-use Rattle.base.proofs.BelowLemmas.{lies_in, lies_so}
-use Rattle.base.specs.Labels.{NameValue}
-use Rattle.base.specs.NameOrder.{folded, same_name}
-use Rattle.base.specs.Parents.{asterisk, is_at_or_below, is_below, parent, wildcard_of, with_first}
+use Rattle.authority.specs.Lookup.{encloser, encloses, end_that_exists, exists, exists_among, if_exists, name_with}
+use Rattle.authority.specs.Lookup.{source, wildcard_below}
+use Rattle.base.proofs.names.BelowLemmas.{lies_in, lies_so}
+use Rattle.base.specs.names.Labels.{NameValue}
+use Rattle.base.specs.names.NameOrder.{folded, same_name}
+use Rattle.base.specs.names.Parents.{asterisk, is_at_or_below, is_below, parent, wildcard_of, with_first}
 use Rattle.base.specs.declared.dns_class.DNSClass.TheVariants as classes
 use Rattle.base.specs.declared.dns_class.DNSClass.{DNSClass}
 use Rattle.base.specs.declared.rr_key.RrKey.{RrKey}

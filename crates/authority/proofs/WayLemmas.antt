@@ -1,12 +1,13 @@
 -- The ends of a name that lie below the origin, and the cuts there.
 use Rattle.authority.proofs.FirstKey.{is_false}
 use Rattle.authority.specs.Found.{IsCutSet}
-use Rattle.authority.specs.Lookup.{Cut, Finding, cut_else, cut_over, ends_below, has_servers, if_below, is_ds, name_with, way}
-use Rattle.base.proofs.BelowLemmas.{lies_in, lies_so}
-use Rattle.base.specs.Labels.{NameValue}
-use Rattle.base.specs.NameOrder.{folded, folded_labels, lowered, same_name}
-use Rattle.base.specs.NameOrderLaws.{same_by-is}
-use Rattle.base.specs.Parents.{is_below, is_within, parent}
+use Rattle.authority.specs.Lookup.{Cut, Finding, cut_else, cut_over, ends_below, has_servers, if_below, is_ds}
+use Rattle.authority.specs.Lookup.{name_with, way}
+use Rattle.base.proofs.names.BelowLemmas.{lies_in, lies_so}
+use Rattle.base.specs.names.Labels.{NameValue}
+use Rattle.base.specs.names.NameOrder.{folded, folded_labels, lowered, same_name}
+use Rattle.base.specs.names.NameOrderLaws.{same_by-is}
+use Rattle.base.specs.names.Parents.{is_below, is_within, parent}
 use Rattle.base.specs.RecordType.{same_type}
 use Rattle.base.specs.RrKey.{key_cmp, key_of}
 use Rattle.base.specs.declared.dns_class.DNSClass.{DNSClass}
@@ -27,7 +28,8 @@ use Rattle.std.specs.Cmp.{first_so, second_so}
 use Rattle.std.specs.Borrow.{Bor}
 use Rattle.std.specs.List.{find}
 use Rattle.std.specs.Option.{option_copied, option_or}
-use Rattle.std.specs.Prelude.{Bool, List, None, Option, Some, [], cond, false, is_some, length, map, not, suc, true, ℕ, ◌&&◌, ◌<◌, ◌∷◌, ◌≡◌}
+use Rattle.std.specs.Prelude.{Bool, List, None, Option, Some, [], cond, false, is_some, length, map, not, suc, true, ℕ}
+use Rattle.std.specs.Prelude.{◌&&◌, ◌<◌, ◌∷◌, ◌≡◌}
 
 -- the last of lists that are none together
 last_nil : (front labels : List (List ℕ)) → [] ≡ front ++ labels → labels ≡ []

@@ -2,7 +2,7 @@
 use Rattle.authority.specs.Lookup.{Alias, Cut, Data, Finding, NoName, Outside, alias_in, records_of}
 use Rattle.authority.specs.declared.found.Found.TheVariants as codes
 use Rattle.authority.specs.declared.found.Found.{Found}
-use Rattle.base.specs.Labels.{NameValue}
+use Rattle.base.specs.names.Labels.{NameValue}
 use Rattle.base.specs.RrKey.{key_cmp, key_of}
 use Rattle.base.specs.declared.dns_class.DNSClass.{DNSClass}
 use Rattle.base.specs.declared.record_type.RecordType.TheVariants as types
@@ -20,6 +20,12 @@ use Rattle.std.specs.Prelude.{List, None, Option, Some, [], ◌≡◌}
 -- the records that are answered of a set, whose owner is the name as it was asked
 abbrev pub answered : DNSClass → NameValue → SetValue → List (Record RData)
 answered class owner s = records_of class owner (data_in_set s)
+
+-- the records of what was found, which are none where no set of the type was
+abbrev pub records_found : DNSClass → NameValue → Found → List (Record RData)
+records_found class owner (codes.Data s) = answered class owner s.now
+records_found class owner (codes.All found) = flat_map (λ s. answered class owner s.now) found.items
+records_found class owner _ = []
 
 -- the set of name servers at a cut, if there is a cut
 abbrev pub IsCutSet : BTreeMap RrKey SetValue → Option NameValue → Option SetValue → Type 0

@@ -1,2 +1,7 @@
+pub mod Answer
+pub mod Chain
 pub mod Found
 pub mod Lookup
+pub mod Reply
+pub mod Sent
+pub mod ZoneRef

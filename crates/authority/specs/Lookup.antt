@@ -1,7 +1,7 @@
 -- What a zone has for a name and a type (RFC 1034, 4.3.2, steps 2 and 3; RFC 4592).
-use Rattle.base.specs.Labels.{NameValue}
-use Rattle.base.specs.NameOrder.{same_name}
-use Rattle.base.specs.Parents.{asterisk, is_at_or_below, is_below, is_within, parent}
+use Rattle.base.specs.names.Labels.{NameValue}
+use Rattle.base.specs.names.NameOrder.{same_name}
+use Rattle.base.specs.names.Parents.{asterisk, is_at_or_below, is_below, is_within, parent}
 use Rattle.base.specs.RrKey.{key_of}
 use Rattle.base.specs.declared.dns_class.DNSClass.{DNSClass}
 use Rattle.base.specs.declared.record_type.RecordType.TheVariants as types
@@ -16,7 +16,8 @@ use Rattle.rr.specs.declared.record.Record.{Record}
 use Rattle.std.specs.FinMap as fin
 use Rattle.std.specs.List.{filter, find, flat_map, fold, list_any}
 use Rattle.std.specs.Option.{option_or}
-use Rattle.std.specs.Prelude.{Bool, List, None, Option, Some, [], false, if◌then◌else◌, map, min, not, true, ℕ, ◌++◌, ◌||◌, ◌∷◌}
+use Rattle.std.specs.Prelude.{Bool, List, None, Option, Some, [], false, if◌then◌else◌, map, min, not, true, ℕ, ◌++◌}
+use Rattle.std.specs.Prelude.{◌||◌, ◌∷◌}
 
 -- a name of these labels
 abbrev pub name_with : Bool → List (List ℕ) → NameValue

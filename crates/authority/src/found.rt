@@ -2,7 +2,7 @@
 
 ghost use Rattle.authority.specs.Found.{IsAlias, IsFound};
 ghost use Rattle.authority.specs.Lookup.{alias_at as the_alias, at_source, first_target, lookup as the_finding};
-ghost use Rattle.base.specs.Labels.{NameValue};
+ghost use Rattle.base.specs.names.Labels.{NameValue};
 ghost use Rattle.base.specs.declared.dns_class.DNSClass.{DNSClass as Class};
 ghost use Rattle.op_use.specs.Applying.{zone_of_map};
 ghost use Rattle.std.specs.Option.{option_copied};
@@ -17,8 +17,8 @@ use std::collections::BTreeMap;
 
 /// What a zone has for a name and a type: the sets are the zone's own, where they stand.
 ///
-/// A record of an answer has the name that was asked as its owner, and the least TTL of its set (RFC 2181, 5.2). Records
-/// of empty data, which updates may add, are in the sets and have no place in an answer.
+/// A record of an answer has the name that was asked as its owner, and the least TTL of its set (RFC 2181, 5.2).
+/// Records of empty data, which updates may add, are in the sets and have no place in an answer.
 #[derive(Drop)]
 pub enum Found<'z> {
     /// The name doesn't lie in the zone.
@@ -37,12 +37,12 @@ pub enum Found<'z> {
     All(Vec<&'z RecordSet>),
 }
 
-/// What the sets of a zone have for a name and a type (RFC 1034, 4.3.2, steps 2 and 3; RFC 4592): one answer, from which
-/// a server makes its response or goes on along an alias.
+/// What the sets of a zone have for a name and a type (RFC 1034, 4.3.2, steps 2 and 3; RFC 4592): one answer, from
+/// which a server makes its response or goes on along an alias.
 ///
-/// The set of a wildcard is answered where one covers the name, and a name between others exists, though it has no sets.
-/// CNAME and ANY are answered where an alias stands, and no other type; a DS set is looked for above its cut (RFC 4035,
-/// 3.1.4.1). A name whose flag isn't the origin's lies outside.
+/// The set of a wildcard is answered where one covers the name, and a name between others exists, though it has no
+/// sets. CNAME and ANY are answered where an alias stands, and no other type; a DS set is looked for above its cut (RFC
+/// 4035, 3.1.4.1). A name whose flag isn't the origin's lies outside.
 ///
 /// Takes a look-up in the map for each label below the origin, and as many more where nothing stands at the name.
 ///

@@ -1,14 +1,20 @@
 //! What follows of what a zone has for a name.
 
+ghost use Rattle.authority.specs.Answer.{answer, negative};
+ghost use Rattle.authority.specs.Chain.{AreLed};
 ghost use Rattle.authority.specs.Lookup.{Cut, NoName, cut_over, encloser, exists, has_servers, is_ds, lookup as the_finding, name_with, wildcard_below};
-ghost use Rattle.base.specs.Labels.{NameValue};
-ghost use Rattle.base.specs.Parents.{is_below, is_within};
+ghost use Rattle.authority.specs.Sent.{sent};
+ghost use Rattle.authority.specs.declared.sending.Carrier.{Carrier as Means};
+ghost use Rattle.base.specs.declared.error.proto_error.ProtoError.{ProtoError as Refusal};
+ghost use Rattle.base.specs.names.Labels.{NameValue};
+ghost use Rattle.base.specs.names.Parents.{is_below, is_within};
 ghost use Rattle.base.specs.declared.record_type.RecordType.{RecordType as Kind};
+ghost use Rattle.op.specs.declared.response_code.ResponseCode.TheVariants.{NXDomain};
 ghost use Rattle.op_use.specs.Zone.{Zone};
-ghost use Rattle.std.specs.Prelude.{Bool, List, None, false, true, ℕ, ◌++◌, ◌≡◌};
+ghost use Rattle.std.specs.Prelude.{Bool, Err, List, None, [], false, true, ℕ, ◌+◌, ◌++◌, ◌↔◌, ◌≡◌, ◌≢◌};
 
-/// Where a zone has no name, nothing stands at the name nor below it, nor at the asterisk below its closest encloser, and
-/// no cut is above it (RFC 2308, 2.1; RFC 4592, 3.3.2).
+/// Where a zone has no name, nothing stands at the name nor below it, nor at the asterisk below its closest encloser,
+/// and no cut is above it (RFC 2308, 2.1; RFC 4592, 3.3.2).
 pub fn no_name_is_nothing_there()
     ensures nothing { (z : Zone) (t : Kind) (n : NameValue) → the_finding z t n ≡ NoName
         → exists z n ≡ false }
@@ -18,9 +24,9 @@ pub fn no_name_is_nothing_there()
         → cut_over z t n ≡ None }
 {}
 
-/// A referral is to a name below the origin that has name servers. Where such a name is an end of the name that is asked
-/// for, whatever type is asked for but DS, the answer is a referral: nothing at a cut or below it is answered as data
-/// (RFC 1034, 4.2.1).
+/// A referral is to a name below the origin that has name servers. Where such a name is an end of the name that is
+/// asked for, whatever type is asked for but DS, the answer is a referral: nothing at a cut or below it is answered as
+/// data (RFC 1034, 4.2.1).
 pub fn cuts_are_referred()
     ensures below { (z : Zone) (t : Kind) (n m : NameValue) → the_finding z t n ≡ Cut m
         → is_below z.origin m ≡ true }
@@ -31,4 +37,35 @@ pub fn cuts_are_referred()
         → is_below z.origin (name_with absolute labels) ≡ true
         → has_servers z (name_with absolute labels) ≡ true
         → (m : NameValue) × (the_finding z t (name_with absolute (front ++ labels)) ≡ Cut m) }
+{}
+
+/// AA is clear in an answer exactly where it is a referral to which no alias leads (RFC 1035, 4.1.1).
+pub fn authority_is_clear_in_referrals_alone()
+    ensures { (z : Zone) (t : Kind) (room : ℕ) (n : NameValue)
+        → ((answer z t room [] n).authoritative ≡ false)
+        ↔ ((m : NameValue) × (the_finding z t n ≡ Cut m)) }
+{}
+
+/// The code is NXDomain only where the zone has nothing for the last name to which aliases lead, and the authorities
+/// are then the SOA over that name (RFC 2308, 2.1; RFC 6604, 2.1).
+pub fn no_name_is_of_the_last()
+    ensures { (z : Zone) (t : Kind) (room : ℕ) (n : NameValue)
+        → (answer z t room [] n).code ≡ NXDomain
+        → (last : NameValue) × (the_finding z t last ≡ NoName)
+        × ((answer z t room [] n).authorities ≡ negative z last) }
+{}
+
+/// Answers are a chain of aliases, each what the zone has for the name to which the one before it leads, and then the
+/// records that it has for the last name, or none. Where there is room for so many more aliases, there is one more at
+/// most (RFC 1034, 3.6.2).
+pub fn answers_are_led()
+    ensures { (z : Zone) (t : Kind) (room : ℕ) (n : NameValue)
+        → AreLed z t n (room + 1) (answer z t room [] n).answers }
+{}
+
+/// What is sent always has room, since 512 bytes hold the header and the one question of any reply, so that `respond`
+/// is refused for memory alone (RFC 1035, 4.2.1).
+pub fn responses_have_room()
+    ensures { (z : Zone) (carrier : Means) (received : List ℕ) (e : Refusal)
+        → sent z carrier received ≢ Err e }
 {}

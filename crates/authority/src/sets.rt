@@ -2,7 +2,7 @@
 
 ghost use Rattle.authority.specs.Found.{IsCutSet};
 ghost use Rattle.authority.specs.Lookup.{cut_over as the_cut, encloser, encloses as is_encloser, exists_among, has_servers, source as the_source, way, wildcard_below};
-ghost use Rattle.base.specs.Parents.{is_below as lies_below, is_within as lies_within, parent};
+ghost use Rattle.base.specs.names.Parents.{is_below as lies_below, is_within as lies_within, parent};
 ghost use Rattle.base.specs.RrKey.{key_cmp, key_of as the_key};
 ghost use Rattle.base.specs.declared.rr_key.RrKey.{RrKey as Key};
 ghost use Rattle.rr.specs.RecordSet.{SetValue};
@@ -142,8 +142,8 @@ fn wildcard_over(
     }
 }
 
-/// Where the data of a name stands: there, or at the asterisk below its closest encloser (RFC 1034, 4.3.2, 3c; RFC 4592,
-/// 3.3.2).
+/// Where the data of a name stands: there, or at the asterisk below its closest encloser (RFC 1034, 4.3.2, 3c; RFC
+/// 4592, 3.3.2).
 pub(crate) fn source(
     alloc: Global,
     sets: &BTreeMap<RrKey, RecordSet>,

@@ -1,6 +1,7 @@
 -- Classes: their numbers, texts and order (RFC 1035, 3.2.4 and 3.2.5; RFC 2136, 2.4; RFC 6891, 6.1.2; RFC 6895, 3.2).
 use Rattle.base.specs.declared.limits.TheConstants.{MIN_PAYLOAD}
-use Rattle.std.specs.Prelude.{ℕ, ◌+◌, ◌%◌, nat_le, Bool, true, false, Option, Some, List, [], ◌∷◌, ◌++◌, ◌==◌, codes, if◌then◌else◌, nat_lt}
+use Rattle.std.specs.Prelude.{ℕ, ◌+◌, ◌%◌, nat_le, Bool, true, false, Option, Some, List, [], ◌∷◌, ◌++◌, ◌==◌, codes}
+use Rattle.std.specs.Prelude.{if◌then◌else◌, nat_lt}
 use Rattle.std.specs.declared.cmp.Ordering.{Ordering}
 use Rattle.std.specs.Fmt.{decimal}
 use Rattle.std.specs.List.{find}

@@ -3,8 +3,8 @@ use Rattle.std.specs.declared.cmp.Ordering.{Ordering}
 use Rattle.std.specs.Ordering.{ordering_then}
 use Rattle.base.specs.declared.record_type.RecordType.{RecordType}
 use Rattle.base.specs.declared.rr_key.RrKey.{RrKey}
-use Rattle.base.specs.Labels.{NameValue}
-use Rattle.base.specs.NameOrder.{lowered, lower_cmp}
+use Rattle.base.specs.names.Labels.{NameValue}
+use Rattle.base.specs.names.NameOrder.{lowered, lower_cmp}
 use Rattle.base.specs.RecordType.{type_cmp}
 
 -- the key of an owner, in whatever case, and a type

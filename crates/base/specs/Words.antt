@@ -2,8 +2,8 @@
 use Rattle.base.specs.declared.limits.TheConstants.{MAX_NAME}
 use Rattle.std.specs.Prelude.{◌≡◌, ℕ, ◌+◌, ◌≤◌, List, [], ◌∷◌, length, take, drop}
 use Rattle.std.specs.Int.{Width, w16, byte_len, from_be_bytes}
-use Rattle.base.specs.Labels.{plain_len}
-use Rattle.base.specs.Spelling.{Spelled}
+use Rattle.base.specs.names.Labels.{plain_len}
+use Rattle.base.specs.reading.Spelling.{Spelled}
 
 -- these bytes stand from i on
 pub record Stands (xs bytes : List ℕ) (i : ℕ) : Type 0 where

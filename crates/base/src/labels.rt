@@ -1,9 +1,8 @@
 //! The labels of a name, inside its value or on the heap.
 
 ghost use Rattle.base.specs.declared.limits.TheConstants.{INLINE_LABELS};
-ghost use Rattle.std.specs.Prelude.{◌≡◌, ◌≤◌, ◌++◌, [], length, map, take, is_ok, IfOk, IsTrue};
-ghost use Rattle.std.specs.Char.{to_ascii_lowercase};
-ghost use Rattle.base.specs.StoredLabels.{lower_labels};
+ghost use Rattle.std.specs.Prelude.{◌≡◌, ◌≤◌, ◌++◌, [], length, take, is_ok, IfOk, IsTrue};
+ghost use Rattle.base.specs.names.StoredLabels.{lower_labels};
 
 mod inline;
 
@@ -33,8 +32,8 @@ pub(crate) struct Labels {
 }
 
 impl Model for Labels {
-    ghost use Rattle.base.specs.Storage.{stored_in};
-    ghost use Rattle.base.specs.StoredLabels.{StoredLabels};
+    ghost use Rattle.base.specs.names.Storage.{stored_in};
+    ghost use Rattle.base.specs.names.StoredLabels.{StoredLabels};
 
     ghost Value = { StoredLabels };
 

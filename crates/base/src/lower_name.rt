@@ -4,10 +4,10 @@ ghost use Rattle.base.specs.declared.limits.TheConstants.{INLINE_LABELS};
 ghost use Rattle.std.specs.Prelude.{◌≡◌, ◌≤◌, IfOk, IsOkUnless, IsTrue, Some, is_ok, length, refl};
 ghost use Rattle.std.specs.Cmp.{partial_equiv_from_equiv};
 ghost use Rattle.std.specs.Ordering.{as_partial_cmp};
-ghost use Rattle.base.specs.Labels.{NameValue, wire_of};
-ghost use Rattle.base.specs.NameText.{name_text};
-ghost use Rattle.base.specs.NameOrder.{exact, folded, lowered, same_lower, lower_cmp, lower_fed};
-ghost use Rattle.base.specs.NameOrderLaws.{same_by-equiv, same_by-tie, cmp_by-total, cmp_by-partial, fed_by-same};
+ghost use Rattle.base.specs.names.Labels.{NameValue, wire_of};
+ghost use Rattle.base.specs.texts.NameText.{name_text};
+ghost use Rattle.base.specs.names.NameOrder.{exact, folded, lowered, same_lower, lower_cmp, lower_fed};
+ghost use Rattle.base.specs.names.NameOrderLaws.{same_by-equiv, same_by-tie, cmp_by-total, cmp_by-partial, fed_by-same};
 
 use crate::error::ProtoError;
 use crate::name::Name;
@@ -26,8 +26,8 @@ pub struct LowerName {
 }
 
 impl Model for LowerName {
-    ghost use Rattle.base.specs.Labels.{NameValue};
-    ghost use Rattle.base.specs.NameOrder.{folded};
+    ghost use Rattle.base.specs.names.Labels.{NameValue};
+    ghost use Rattle.base.specs.names.NameOrder.{folded};
     ghost use Rattle.std.specs.Prelude.{◌≡◌};
 
     ghost Value = { NameValue };

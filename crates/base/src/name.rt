@@ -3,8 +3,8 @@
 ghost use Rattle.base.specs.declared.limits.TheConstants.{MAX_LABELS, MAX_NAME};
 ghost use Rattle.std.specs.Prelude.{◌≡◌, ◌+◌, ◌<◌, ◌≤◌, ◌↔◌, [], ◌∷◌, ◌++◌, true, length, IsTrue, IfOk, IfSome, IsOkUnless, MatchOption, slice_get};
 ghost use Rattle.std.specs.Option.{option_copied};
-ghost use Rattle.base.specs.Labels.{AreLabels, IsLabelRun, plain_len, wire_of, labels_of};
-ghost use Rattle.base.specs.Parents.{parent, wildcard_of};
+ghost use Rattle.base.specs.names.Labels.{AreLabels, IsLabelRun, plain_len, wire_of, labels_of};
+ghost use Rattle.base.specs.names.Parents.{parent, wildcard_of};
 
 pub mod compare;
 pub mod display;
@@ -34,7 +34,7 @@ pub struct Name {
 }
 
 impl Model for Name {
-    ghost use Rattle.base.specs.Labels.{NameValue, IsWire, labels_of};
+    ghost use Rattle.base.specs.names.Labels.{NameValue, IsWire, labels_of};
 
     ghost Value = { NameValue };
 

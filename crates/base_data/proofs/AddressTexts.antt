@@ -1,5 +1,6 @@
 -- The texts of addresses are those that std reads whole.
-use Rattle.std.proofs.Common.{◌≡◌, ℕ, List, [], ◌∷◌, length, refl, ap, sym, ◌∙◌, subst, arith, Option, Some, None, false}
+use Rattle.std.proofs.Common.{◌≡◌, ℕ, List, [], ◌∷◌, length, refl, ap, sym, ◌∙◌, subst, arith, Option, Some, None}
+use Rattle.std.proofs.Common.{false}
 use Rattle.std.specs.Prelude.{◌==◌, ◌↔◌, option_map}
 use Rattle.std.specs.Net.Addr.{octets_of}
 use Rattle.std.specs.Net.Grammar.{IsColonHex, IsDotted}
@@ -28,17 +29,25 @@ ipv4_text text bytes = (there, back) where
       subst (λ (t : List ℕ). IsDotted t bytes) (sym (found.1 ∙ append-nil found.0)) found.2
 
   back : IsDotted text bytes → ipv4_item text ≡ Some bytes
-  back dotted = ap whole_value (ap read_ipv4 (sym (append-nil text)) ∙ read_ipv4_complete text bytes [] dotted (omega arith))
+  back dotted = ap whole_value (ap read_ipv4 (sym (append-nil text))
+      ∙ read_ipv4_complete text bytes [] dotted (omega arith))
 
-pub ipv6_text : (text bytes : List ℕ) → (ipv6_item text ≡ Some bytes) ↔ ((segments : List ℕ) × IsColonHex text segments × (bytes ≡ octets_of segments))
+pub ipv6_text : (text bytes : List ℕ) → (ipv6_item text ≡ Some bytes)
+    ↔ ((segments : List ℕ) × IsColonHex text segments × (bytes ≡ octets_of segments))
 unfolding ipv6_item
 ipv6_text text bytes = (there (whole_value (read_ipv6 text)) refl, back) where
-  there : (o : Option (List ℕ)) → whole_value (read_ipv6 text) ≡ o → option_map octets_of o ≡ Some bytes → (segments : List ℕ) × IsColonHex text segments × (bytes ≡ octets_of segments)
+  there : (o : Option (List ℕ)) → whole_value (read_ipv6 text) ≡ o → option_map octets_of o ≡ Some bytes
+      → (segments : List ℕ) × IsColonHex text segments × (bytes ≡ octets_of segments)
   there None read is = absurd (cc is)
   there (Some segments) read is =
-      let found = read_ipv6_sound text segments [] (whole_is (read_ipv6 text) segments read) in
-      (segments, subst (λ (t : List ℕ). IsColonHex t segments) (sym (found.1 ∙ append-nil found.0)) found.2, sym (cc is))
+      let found = read_ipv6_sound text segments [] (whole_is (read_ipv6 text) segments read) in (
+        segments,
+        subst (λ (t : List ℕ). IsColonHex t segments) (sym (found.1 ∙ append-nil found.0)) found.2,
+        sym (cc is),
+      )
 
   back : (segments : List ℕ) × IsColonHex text segments × (bytes ≡ octets_of segments) → ipv6_item text ≡ Some bytes
   back (segments, groups, is) =
-      ap (λ (r : Read (List ℕ)). option_map octets_of (whole_value r)) (ap read_ipv6 (sym (append-nil text)) ∙ read_ipv6_complete text segments [] groups EndsGroups-nil) ∙ ap Some (sym is)
+      ap (λ (r : Read (List ℕ)). option_map octets_of (whole_value r))
+      (ap read_ipv6 (sym (append-nil text)) ∙ read_ipv6_complete text segments [] groups EndsGroups-nil)
+      ∙ ap Some (sym is)

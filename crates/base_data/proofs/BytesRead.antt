@@ -1,12 +1,13 @@
 -- What is read as bytes.
-use Rattle.std.proofs.Common.{◌≡◌, ℕ, ◌+◌, ◌<◌, ◌≤◌, List, [], ◌∷◌, length, take, drop, get_or, Ok, refl, ap, sym, ◌∙◌, arith}
+use Rattle.std.proofs.Common.{◌≡◌, ℕ, ◌+◌, ◌<◌, ◌≤◌, List, [], ◌∷◌, length, take, drop, get_or, Ok, refl, ap, sym, ◌∙◌}
+use Rattle.std.proofs.Common.{arith}
 use Rattle.std.proofs.lemmas.Bool.{ltb-false}
 use Rattle.std.proofs.lemmas.List.{length-take, length-drop, get_or-take, get_or-drop}
 use Rattle.std.specs.Int.{w16, w32, from_be_bytes}
 use Rattle.std.specs.Prelude.{nat_lt}
-use Rattle.base.proofs.ReadLemmas.{guard_ok}
-use Rattle.base.specs.Reading.{bytes_at}
-use Rattle.base.specs.Spelling.{ByteAt, anywhere}
+use Rattle.base.proofs.reading.ReadLemmas.{guard_ok}
+use Rattle.base.specs.reading.Reading.{bytes_at}
+use Rattle.base.specs.reading.Spelling.{ByteAt, anywhere}
 use Rattle.base.specs.Words.{IsNumberAt}
 use Rattle.base.specs.declared.error.decode_error.DecodeError.TheVariants as faults
 
@@ -43,7 +44,8 @@ module _ {len : ℕ} {B : List ℕ} {i : ℕ} {r : List ℕ × ℕ} (s : ReadsBy
   byte : (k j : ℕ) → k + j < len → get_or r.0 (k + j) 0 ≡ get_or (drop (i + k) B) j 0
   byte k j below =
       let place : i + (k + j) ≡ i + k + j = omega arith in
-      ap (λ (ys : List ℕ). get_or ys (k + j) 0) s.is ∙ get_or-take len (drop i B) (k + j) 0 below ∙ get_or-drop i B (k + j) 0 ∙ ap (λ n. get_or B n 0) place ∙ sym (get_or-drop (i + k) B j 0)
+      ap (λ (ys : List ℕ). get_or ys (k + j) 0) s.is ∙ get_or-take len (drop i B) (k + j) 0 below
+      ∙ get_or-drop i B (k + j) 0 ∙ ap (λ n. get_or B n 0) place ∙ sym (get_or-drop (i + k) B j 0)
 
   room : (k n : ℕ) → k + n ≤ len → n ≤ length (drop (i + k) B)
   room k n fits = omega (arith, fits, s.inside, length-drop (i + k) B)
@@ -55,7 +57,8 @@ module _ {len : ℕ} {B : List ℕ} {i : ℕ} {r : List ℕ × ℕ} (s : ReadsBy
     seen = tt;
   }
 
-  pub number16_among : (k : ℕ) → k + 2 ≤ len → IsNumberAt w16 B (i + k) (from_be_bytes w16 (get_or r.0 (k + 0) 0 ∷ get_or r.0 (k + 1) 0 ∷ []))
+  pub number16_among : (k : ℕ) → k + 2 ≤ len
+      → IsNumberAt w16 B (i + k) (from_be_bytes w16 (get_or r.0 (k + 0) 0 ∷ get_or r.0 (k + 1) 0 ∷ []))
   number16_among k fits =
       let all = two (drop (i + k) B) (room k 2 fits) in
       let first = byte k 0 (omega (arith, fits)) in
@@ -66,7 +69,8 @@ module _ {len : ℕ} {B : List ℕ} {i : ℕ} {r : List ℕ × ℕ} (s : ReadsBy
       }
 
   pub number32_among : (k : ℕ) → k + 4 ≤ len
-      → IsNumberAt w32 B (i + k) (from_be_bytes w32 (get_or r.0 (k + 0) 0 ∷ get_or r.0 (k + 1) 0 ∷ get_or r.0 (k + 2) 0 ∷ get_or r.0 (k + 3) 0 ∷ []))
+      → IsNumberAt w32 B (i + k) (from_be_bytes w32
+      (get_or r.0 (k + 0) 0 ∷ get_or r.0 (k + 1) 0 ∷ get_or r.0 (k + 2) 0 ∷ get_or r.0 (k + 3) 0 ∷ []))
   number32_among k fits =
       let all = four (drop (i + k) B) (room k 4 fits) in
       let first = byte k 0 (omega (arith, fits)) in

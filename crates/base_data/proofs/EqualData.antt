@@ -60,10 +60,13 @@ one_kind (kinds.Update0 a) (kinds.Update0 b) h = refl
 one_kind (kinds.Unknown a x) (kinds.Unknown b y) h = refl
 one_kind _ _ h = cc
 
-pub unknown_same : (s t : RecordType) (a b : List ℕ) → IsTrue (same_data (kinds.Unknown s a) (kinds.Unknown t b)) ↔ (IsTrue (same_type s t) × (a ≡ b))
+pub unknown_same : (s t : RecordType) (a b : List ℕ)
+    → IsTrue (same_data (kinds.Unknown s a) (kinds.Unknown t b)) ↔ (IsTrue (same_type s t) × (a ≡ b))
 unknown_same s t a b =
-    let bytes = bytes_same a b in
-    (λ yes. (first_so (same_type s t) _ yes, bytes.0 (second_so (same_type s t) _ yes)), λ same. λ i. same.0 i && bytes.1 same.1 i)
+    let bytes = bytes_same a b in (
+      λ yes. (first_so (same_type s t) _ yes, bytes.0 (second_so (same_type s t) _ yes)),
+      λ same. λ i. same.0 i && bytes.1 same.1 i,
+    )
 
 pub a_same : (a b : A) → IsTrue (a_eq a b) ↔ (a ≡ b)
 a_same a b =
@@ -72,5 +75,7 @@ a_same a b =
 
 pub aaaa_same : (a b : AAAA) → IsTrue (aaaa_eq a b) ↔ (a ≡ b)
 aaaa_same a b =
-    let bytes = bytes_same a.octets b.octets in
-    (λ yes. ap (λ (xs : List ℕ). record { octets = xs }) (bytes.0 yes), λ same. bytes.1 (ap (λ (x : AAAA). x.octets) same))
+    let bytes = bytes_same a.octets b.octets in (
+      λ yes. ap (λ (xs : List ℕ). record { octets = xs }) (bytes.0 yes),
+      λ same. bytes.1 (ap (λ (x : AAAA). x.octets) same),
+    )

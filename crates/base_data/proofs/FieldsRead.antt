@@ -18,12 +18,12 @@ use Rattle.std.proofs.lemmas.Bool.Decides.{nat_tests}
 use Rattle.std.proofs.lemmas.Fmt.{decimal_is_IsNumeral, digits_decimal, digits_value-decimal}
 use Rattle.std.proofs.lemmas.List.Elements.{All-head, All-tail}
 use Rattle.std.proofs.lemmas.Str.Parse.{IsNumeralModel, numerals_by_fold}
-use Rattle.base.proofs.NameOfLaws.{named_by}
-use Rattle.base.proofs.TextLawLemmas.{name_text_names}
-use Rattle.base.proofs.TtlLemmas.{step_digit}
-use Rattle.base.specs.Labels.{NameValue}
-use Rattle.base.specs.NameText.{name_text}
-use Rattle.base.specs.Ttl.{below_limit, digit_after, ttl_of, ttl_sum}
+use Rattle.base.proofs.texts.NameOfLaws.{named_by}
+use Rattle.base.proofs.texts.TextLawLemmas.{name_text_names}
+use Rattle.base.proofs.texts.TtlLemmas.{step_digit}
+use Rattle.base.specs.names.Labels.{NameValue}
+use Rattle.base.specs.texts.NameText.{name_text}
+use Rattle.base.specs.texts.Ttl.{below_limit, digit_after, ttl_of, ttl_sum}
 use Rattle.base_data.proofs.FieldTexts.{number_fits, own}
 use Rattle.base_data.specs.AAAA.{aaaa_text}
 use Rattle.base_data.specs.Fields.{ipv4_item, ipv6_item, name_item, number_item}
@@ -32,7 +32,8 @@ use Rattle.base_data.specs.Kind.{AreOctets, HasText}
 pub number_decimal : (bits n : ℕ) → n < 2 ^ bits → n < 2 ^ 64 → number_item bits (decimal n) ≡ Some n
 number_decimal bits n fits small =
     let value = digits_value-decimal own n small in
-    number_fits bits (decimal n) (digits_decimal own n small) (decimal_is_IsNumeral n small).0.0 (subst (λ (m : ℕ). m < 2 ^ bits) (sym value) fits) ∙ ap Some value
+    number_fits bits (decimal n) (digits_decimal own n small) (decimal_is_IsNumeral n small).0.0
+    (subst (λ (m : ℕ). m < 2 ^ bits) (sym value) fits) ∙ ap Some value
 
 read_on : ℕ → List ℕ → ℕ
 read_on n [] = n
@@ -71,7 +72,8 @@ pub ttl_decimal : (n : ℕ) → n < 2 ^ 32 → ttl_of (decimal n) ≡ Some n
 ttl_decimal n small =
     let wide : n < 2 ^ 64 = omega arith in
     let fits : nat_lt n (2 ^ 32) ≡ true = grind (arith, nat_tests) in
-    ttl_numeral (decimal n) (digits_decimal folded n wide) (decimal_is_IsNumeral n wide).0.0 ∙ ap (λ (m : ℕ). below_limit (Some m)) (digits_value-decimal folded n wide) ∙ rw fits refl
+    ttl_numeral (decimal n) (digits_decimal folded n wide) (decimal_is_IsNumeral n wide).0.0
+    ∙ ap (λ (m : ℕ). below_limit (Some m)) (digits_value-decimal folded n wide) ∙ rw fits refl
 
 pub name_read : (n : NameValue) → HasText n → name_item (name_text n) None ≡ Some n
 name_read n has = ap result_ok (named_by (name_text_names n has.bytes has.labels has.short has.some))
@@ -84,9 +86,11 @@ bytes_at (b ∷ o) are (suc k) = bytes_at o (All-tail (λ (c : ℕ). c < 256) b 
 
 pub ipv4_read : (o : List ℕ) → AreOctets 4 o → ipv4_item (ipv4_text o) ≡ Some o
 unfolding ipv4_item
-ipv4_read o are = ap whole_value (rw append-nil at (read_ipv4_complete (ipv4_text o) o [] (IsDotted-ipv4_text o are.count (bytes_at o are.bytes)) (lit≤ tt)))
+ipv4_read o are = ap whole_value (rw append-nil at
+    (read_ipv4_complete (ipv4_text o) o [] (IsDotted-ipv4_text o are.count (bytes_at o are.bytes)) (lit≤ tt)))
 
-octets-segments : (n : ℕ) (o : List ℕ) → length o ≡ n + n → ((k : ℕ) → get_or o k 0 < 256) → octets_of (segments_of o) ≡ o
+octets-segments : (n : ℕ) (o : List ℕ) → length o ≡ n + n → ((k : ℕ) → get_or o k 0 < 256)
+    → octets_of (segments_of o) ≡ o
 octets-segments zero [] count bytes = refl
 octets-segments (suc n) (a ∷ b ∷ o) count bytes =
     let low : b < 256 = bytes 1 in
@@ -101,17 +105,21 @@ segments-count zero [] count = refl
 segments-count (suc n) (a ∷ b ∷ o) count = ap suc (segments-count n o (omega arith))
 segments-count n o count = absurd (omega arith)
 
-segments-fit : (n : ℕ) (o : List ℕ) → length o ≡ n + n → ((k : ℕ) → get_or o k 0 < 256) → (k : ℕ) → get_or (segments_of o) k 0 < 2 ^ 16
+segments-fit : (n : ℕ) (o : List ℕ) → length o ≡ n + n → ((k : ℕ) → get_or o k 0 < 256) → (k : ℕ)
+    → get_or (segments_of o) k 0 < 2 ^ 16
 segments-fit zero [] count bytes k = omega arith
 segments-fit zero (a ∷ o) count bytes k = absurd (omega arith)
 segments-fit (suc n) [] count bytes k = absurd (omega arith)
 segments-fit (suc n) (a ∷ []) count bytes k = absurd (omega arith)
-segments-fit (suc n) (a ∷ b ∷ o) count bytes zero = let first : a < 256 = bytes 0 in let second : b < 256 = bytes 1 in omega arith
+segments-fit (suc n) (a ∷ b ∷ o) count bytes zero = let first : a < 256 = bytes 0 in let second : b < 256 = bytes 1 in
+    omega arith
 segments-fit (suc n) (a ∷ b ∷ o) count bytes (suc k) = segments-fit n o (omega arith) (λ (j : ℕ). bytes (suc (suc j))) k
 
 pub ipv6_read : (o : List ℕ) → AreOctets 16 o → ipv6_item (aaaa_text o) ≡ Some o
 unfolding ipv6_item
 ipv6_read o are =
-    let spelled = IsColonHex-hex_groups_text (segments_of o) (segments-count 8 o are.count) (segments-fit 8 o are.count (bytes_at o are.bytes)) in
+    let spelled = IsColonHex-hex_groups_text (segments_of o) (segments-count 8 o are.count)
+    (segments-fit 8 o are.count (bytes_at o are.bytes)) in
     let complete = rw append-nil at (read_ipv6_complete (aaaa_text o) (segments_of o) [] spelled EndsGroups-nil) in
-    ap (λ (x : Read (List ℕ)). option_map octets_of (whole_value x)) complete ∙ ap Some (octets-segments 8 o are.count (bytes_at o are.bytes))
+    ap (λ (x : Read (List ℕ)). option_map octets_of (whole_value x)) complete
+    ∙ ap Some (octets-segments 8 o are.count (bytes_at o are.bytes))

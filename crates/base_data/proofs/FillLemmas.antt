@@ -7,6 +7,7 @@ use Rattle.base_data.specs.Kinds.{kind_at}
 use Rattle.base_data.specs.RData.{filling, rdata_at}
 
 -- data of some bytes is what its kind reads, if that fills them
-pub filling_of : (type : RecordType) (len : ℕ) (B : List ℕ) (i : ℕ) → (len ≡ 0 → ⊥) → rdata_at type len B i ≡ filling type (i + len) (kind_at type len B i)
+pub filling_of : (type : RecordType) (len : ℕ) (B : List ℕ) (i : ℕ) → (len ≡ 0 → ⊥)
+    → rdata_at type len B i ≡ filling type (i + len) (kind_at type len B i)
 unfolding rdata_at
 filling_of type len B i some = cond-false (len == 0) _ _ (ne_eqb len 0 some)

@@ -4,8 +4,8 @@ use Rattle.std.specs.Prelude.{option_map}
 use Rattle.std.specs.Fmt.{decimal}
 use Rattle.std.specs.List.{flat_map, join_with_byte}
 use Rattle.std.specs.Net.Text.{ipv4_text}
-use Rattle.base.specs.Labels.{NameValue}
-use Rattle.base.specs.NameText.{name_text}
+use Rattle.base.specs.names.Labels.{NameValue}
+use Rattle.base.specs.texts.NameText.{name_text}
 use Rattle.base.specs.declared.record_type.RecordType.{RecordType}
 use Rattle.base.specs.declared.record_type.RecordType.TheVariants as types
 use Rattle.base_data.proofs.FieldsRead.{ipv4_read, ipv6_read, name_read, number_decimal, ttl_decimal}
@@ -45,7 +45,8 @@ aaaa_read : (x : AAAA) → AreOctets 16 x.octets → aaaa_of (aaaa_text x.octets
 unfolding aaaa_of
 aaaa_read x are = ap (option_map {U = AAAA} (λ (o : List ℕ). record { octets = o })) (ipv6_read x.octets are)
 
-one_read : {X : Type 0} (of : NameValue → X) (n : NameValue) → HasText n → one_name_of of (name_text n ∷ []) None ≡ Some (of n)
+one_read : {X : Type 0} (of : NameValue → X) (n : NameValue) → HasText n
+    → one_name_of of (name_text n ∷ []) None ≡ Some (of n)
 one_read of n has = ap (option_map of) (name_read n has)
 
 ns_read : (x : NS) → HasText x.name → ns_of (name_text x.name ∷ []) None ≡ Some x
@@ -64,18 +65,22 @@ aname_read : (x : ANAME) → HasText x.name → aname_of (name_text x.name ∷ [
 unfolding aname_of
 aname_read x has = one_read {X = ANAME} (λ name. record { name = name }) x.name has
 
-mx_read : (x : MX) → x.preference < 2 ^ 16 → HasText x.exchange → mx_of (decimal x.preference ∷ name_text x.exchange ∷ []) None ≡ Some x
+mx_read : (x : MX) → x.preference < 2 ^ 16 → HasText x.exchange
+    → mx_of (decimal x.preference ∷ name_text x.exchange ∷ []) None ≡ Some x
 unfolding mx_of
 mx_read x fits has = rw (number_decimal 16 x.preference fits (omega arith), name_read x.exchange has) refl
 
-srv_read : (x : SRV) → SRVFits x → HasText x.target → srv_of (decimal x.priority ∷ decimal x.weight ∷ decimal x.port ∷ name_text x.target ∷ []) None ≡ Some x
+srv_read : (x : SRV) → SRVFits x → HasText x.target
+    → srv_of (decimal x.priority ∷ decimal x.weight ∷ decimal x.port ∷ name_text x.target ∷ []) None ≡ Some x
 unfolding srv_of
 srv_read x fits has =
     let number = λ (n : ℕ) (small : n < 2 ^ 16). number_decimal 16 n small (omega arith) in
-    rw (number x.priority fits.priority, number x.weight fits.weight, number x.port fits.port, name_read x.target has) refl
+    rw (number x.priority fits.priority, number x.weight fits.weight, number x.port fits.port, name_read x.target has)
+    refl
 
 soa_read : (x : SOA) → HasText x.mname → HasText x.rname → SOAFits x
-    → soa_of (name_text x.mname ∷ name_text x.rname ∷ decimal x.serial ∷ decimal x.refresh ∷ decimal x.retry ∷ decimal x.expire ∷ decimal x.minimum ∷ []) None ≡ Some x
+    → soa_of (name_text x.mname ∷ name_text x.rname ∷ decimal x.serial ∷ decimal x.refresh ∷ decimal x.retry ∷ decimal
+    x.expire ∷ decimal x.minimum ∷ []) None ≡ Some x
 unfolding soa_of
 soa_read x m r fits =
     rw (
@@ -105,22 +110,32 @@ none_of : {items : List (List ℕ)} → None ≡ Some items → ⊥
 none_of e = cc
 
 -- data of one kind is data of any
-any_read : {X : Type 0} (kind : X → RData) (type : RecordType) (of : List (List ℕ) → Option X) (own items : List (List ℕ)) (x : X) → of own ≡ Some x
+any_read : {X : Type 0} (kind : X → RData) (type : RecordType) (of : List (List ℕ) → Option X)
+    (own items : List (List ℕ)) (x : X) → of own ≡ Some x
     → Some own ≡ Some items → any_of kind type (of items) ≡ Ok (kind x)
 any_read kind type of own items x read is =
-    these (λ (these_items : List (List ℕ)). any_of kind type (of these_items) ≡ Ok (kind x)) own items is (ap (any_of kind type) read)
+    these (λ (these_items : List (List ℕ)). any_of kind type (of these_items) ≡ Ok (kind x)) own items is
+    (ap (any_of kind type) read)
 
-pub data_read : (d : RData) (items : List (List ℕ)) → items_of d ≡ Some items → HasTextForm d → data_of (type_of_data d) items None ≡ Ok d
+pub data_read : (d : RData) (items : List (List ℕ)) → items_of d ≡ Some items → HasTextForm d
+    → data_of (type_of_data d) items None ≡ Ok d
 unfolding data_of
 data_read (kinds.A x) items is so = any_read (λ y. kinds.A y) types.A a_of _ items x (a_read x so) is
 data_read (kinds.AAAA x) items is so = any_read (λ y. kinds.AAAA y) types.AAAA aaaa_of _ items x (aaaa_read x so) is
-data_read (kinds.NS x) items is so = any_read (λ y. kinds.NS y) types.NS (λ own. ns_of own None) _ items x (ns_read x so) is
-data_read (kinds.CNAME x) items is so = any_read (λ y. kinds.CNAME y) types.CNAME (λ own. cname_of own None) _ items x (cname_read x so) is
-data_read (kinds.PTR x) items is so = any_read (λ y. kinds.PTR y) types.PTR (λ own. ptr_of own None) _ items x (ptr_read x so) is
-data_read (kinds.ANAME x) items is so = any_read (λ y. kinds.ANAME y) types.ANAME (λ own. aname_of own None) _ items x (aname_read x so) is
-data_read (kinds.MX x) items is so = any_read (λ y. kinds.MX y) types.MX (λ own. mx_of own None) _ items x (mx_read x so.0 so.1) is
-data_read (kinds.SOA x) items is so = any_read (λ y. kinds.SOA y) types.SOA (λ own. soa_of own None) _ items x (soa_read x so.0 so.1 so.2) is
-data_read (kinds.SRV x) items is so = any_read (λ y. kinds.SRV y) types.SRV (λ own. srv_of own None) _ items x (srv_read x so.0 so.1) is
+data_read (kinds.NS x) items is so = any_read (λ y. kinds.NS y) types.NS (λ own. ns_of own None) _ items x
+    (ns_read x so) is
+data_read (kinds.CNAME x) items is so = any_read (λ y. kinds.CNAME y) types.CNAME (λ own. cname_of own None) _ items x
+    (cname_read x so) is
+data_read (kinds.PTR x) items is so = any_read (λ y. kinds.PTR y) types.PTR (λ own. ptr_of own None) _ items x
+    (ptr_read x so) is
+data_read (kinds.ANAME x) items is so = any_read (λ y. kinds.ANAME y) types.ANAME (λ own. aname_of own None) _ items x
+    (aname_read x so) is
+data_read (kinds.MX x) items is so = any_read (λ y. kinds.MX y) types.MX (λ own. mx_of own None) _ items x
+    (mx_read x so.0 so.1) is
+data_read (kinds.SOA x) items is so = any_read (λ y. kinds.SOA y) types.SOA (λ own. soa_of own None) _ items x
+    (soa_read x so.0 so.1 so.2) is
+data_read (kinds.SRV x) items is so = any_read (λ y. kinds.SRV y) types.SRV (λ own. srv_of own None) _ items x
+    (srv_read x so.0 so.1) is
 data_read (kinds.TXT x) items is so = any_read (λ y. kinds.TXT y) types.TXT txt_of _ items x (txt_read x so) is
 data_read other items is so = absurd so
 
@@ -134,10 +149,13 @@ strings_shown (x ∷ xs) = ap (λ (rest : List (List ℕ)). string_text x ∷ re
 abbrev joined : RData → List (List ℕ) → List ℕ
 joined d items = join_with_byte 32 (map (shown_item d) items)
 
-any_shown : (d : RData) (own items : List (List ℕ)) → data_text d ≡ joined d own → Some own ≡ Some items → data_text d ≡ joined d items
-any_shown d own items text is = these (λ (these_items : List (List ℕ)). data_text d ≡ joined d these_items) own items is text
+any_shown : (d : RData) (own items : List (List ℕ)) → data_text d ≡ joined d own → Some own ≡ Some items
+    → data_text d ≡ joined d items
+any_shown d own items text is = these (λ (these_items : List (List ℕ)). data_text d ≡ joined d these_items) own items is
+    text
 
-pub text_shown : (d : RData) (items : List (List ℕ)) → items_of d ≡ Some items → data_text d ≡ join_with_byte 32 (map (shown_item d) items)
+pub text_shown : (d : RData) (items : List (List ℕ)) → items_of d ≡ Some items
+    → data_text d ≡ join_with_byte 32 (map (shown_item d) items)
 text_shown (kinds.A x) items is = any_shown (kinds.A x) _ items refl is
 text_shown (kinds.AAAA x) items is = any_shown (kinds.AAAA x) _ items refl is
 text_shown (kinds.NS x) items is = any_shown (kinds.NS x) _ items refl is

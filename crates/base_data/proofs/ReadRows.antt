@@ -2,7 +2,7 @@
 use Rattle.std.proofs.Common.{Bool, Err, List, Ok, ap, cond, false, refl, subst, true, ℕ, ◌+◌, ◌∙◌, ◌≡◌}
 use Rattle.std.proofs.lemmas.Bool.{eq-eqb, eqb-true}
 use Rattle.std.specs.Prelude.{◌==◌}
-use Rattle.base.specs.Reading.{Read}
+use Rattle.base.specs.reading.Reading.{Read}
 use Rattle.base.specs.declared.error.decode_error.DecodeError.TheVariants as faults
 use Rattle.base.specs.declared.error.decode_error.DecodeError.{DecodeError}
 use Rattle.base.specs.declared.record_type.RecordType.TheVariants as types
@@ -18,27 +18,32 @@ pub record IsRow (type : RecordType) (len : ℕ) (B : List ℕ) (i : ℕ) (read 
   pub says : (r : RData × ℕ) → filling type (i + len) read ≡ Ok r → IsDataAt B i type len r.0 × (r.1 ≡ i + len)
   pub fault : (f : DecodeError) → filling type (i + len) read ≡ Err f → f ≡ faults.BadData type
 
-filled : {Y : Type 0} (type : RecordType) (end : ℕ) (x y : Y × ℕ) → cond (x.1 == end) (Ok x) (Err (faults.BadData type)) ≡ Ok y → (x ≡ y) × (x.1 ≡ end)
+filled : {Y : Type 0} (type : RecordType) (end : ℕ) (x y : Y × ℕ)
+    → cond (x.1 == end) (Ok x) (Err (faults.BadData type)) ≡ Ok y → (x ≡ y) × (x.1 ≡ end)
 filled type end x y is = at (x.1 == end) refl is where
   at : (test : Bool) → (x.1 == end) ≡ test → cond test (Ok x) (Err (faults.BadData type)) ≡ Ok y → (x ≡ y) × (x.1 ≡ end)
   at true same is = (same_ok x y is, eqb-true x.1 end same)
   at false same is = cc
 
-unfilled : {Y : Type 0} (type : RecordType) (test : Bool) (x : Y × ℕ) (f : DecodeError) → cond test (Ok x) (Err (faults.BadData type)) ≡ Err f → f ≡ faults.BadData type
+unfilled : {Y : Type 0} (type : RecordType) (test : Bool) (x : Y × ℕ) (f : DecodeError)
+    → cond test (Ok x) (Err (faults.BadData type)) ≡ Err f → f ≡ faults.BadData type
 unfilled type true x f is = cc
 unfilled type false x f is = cc
 
-fault_in : (type : RecordType) (e : DecodeError) → (e ≡ faults.Memory → ⊥) → (f : DecodeError) → filling type 0 (Err e) ≡ Err f → f ≡ faults.BadData type
+fault_in : (type : RecordType) (e : DecodeError) → (e ≡ faults.Memory → ⊥) → (f : DecodeError)
+    → filling type 0 (Err e) ≡ Err f → f ≡ faults.BadData type
 fault_in type faults.Memory other f is = absurd (other refl)
 fault_in type _ other f is = cc
 
 -- of a kind
-pub row_of : {X : Type 0} {P : X → Type 0} (type : RecordType) (len : ℕ) (B : List ℕ) (i : ℕ) (kind : X → RData) (read : Read X) → Fills read (i + len) P
+pub row_of : {X : Type 0} {P : X → Type 0} (type : RecordType) (len : ℕ) (B : List ℕ) (i : ℕ) (kind : X → RData)
+    (read : Read X) → Fills read (i + len) P
     → ((x : X) → P x → IsDataAt B i type len (kind x)) → IsRow type len B i (as_any kind read)
 row_of {X} type len B i kind (Ok p) fills stands = record {
   says = λ r is.
       let full = filled type (i + len) (kind p.0, p.1) r is in
-      subst (λ (z : RData × ℕ). IsDataAt B i type len z.0 × (z.1 ≡ i + len)) full.0 (stands p.0 (fills.says p.0 (ap (λ (e : ℕ). ok (p.0, e)) full.1)), full.1);
+      subst (λ (z : RData × ℕ). IsDataAt B i type len z.0 × (z.1 ≡ i + len)) full.0
+      (stands p.0 (fills.says p.0 (ap (λ (e : ℕ). ok (p.0, e)) full.1)), full.1);
   fault = λ f is. unfilled type (p.1 == (i + len)) (kind p.0, p.1) f is;
 } where
   ok : X × ℕ → Read X
@@ -50,7 +55,8 @@ row_of {X} type len B i kind (Err e) fills stands = record {
   err : DecodeError → Read X
   err g = Err g
 
-pub again_of : {X : Type 0} {P : X → Type 0} (type : RecordType) (end : ℕ) (kind : X → RData) (read : Read X) → Fills read end P → (x : X) → P x
+pub again_of : {X : Type 0} {P : X → Type 0} (type : RecordType) (end : ℕ) (kind : X → RData) (read : Read X)
+    → Fills read end P → (x : X) → P x
     → filling type end (as_any kind read) ≡ Ok (kind x, end)
 again_of {X} type end kind read fills x is =
     ap (λ (r : Read X). filling type end (as_any kind r)) (fills.again x is) ∙ rw (eq-eqb end end refl) refl

@@ -1,12 +1,13 @@
 -- The start of a zone of authority: read where their word stands, written, equal and tied.
-use Rattle.std.proofs.Common.{IsTrue, List, [], ap, arith, drop, get_or, length, refl, subst, sym, take, true, ℕ, ◌++◌, ◌<◌, ◌∙◌, ◌∷◌, ◌≡◌, ◌≤◌}
+use Rattle.std.proofs.Common.{IsTrue, List, [], ap, arith, drop, get_or, length, refl, subst, sym, take, true, ℕ, ◌++◌}
+use Rattle.std.proofs.Common.{◌<◌, ◌∙◌, ◌∷◌, ◌≡◌, ◌≤◌}
 use Rattle.std.proofs.lemmas.List.{append_assoc, length-map}
 use Rattle.std.specs.Char.{to_ascii_lowercase}
 use Rattle.std.specs.Cmp.{first_so, second_so}
 use Rattle.std.specs.Int.{to_be_bytes, w32}
 use Rattle.std.specs.Prelude.{◌==◌, ◌↔◌}
-use Rattle.base.specs.Labels.{AreLabels, NameValue, wire_of}
-use Rattle.base.specs.NameOrder.{canonical_name, folded, folded_labels, same_name}
+use Rattle.base.specs.names.Labels.{AreLabels, NameValue, wire_of}
+use Rattle.base.specs.names.NameOrder.{canonical_name, folded, folded_labels, same_name}
 use Rattle.base_data.proofs.FieldLemmas.{both, is_number, long_same, number_is, split}
 use Rattle.base_data.proofs.NameWords.{here_name, name_here, name_longer, name_same, same_name-from}
 use Rattle.base_data.proofs.SameData.{IsSame, flag_of}
@@ -19,17 +20,35 @@ use Rattle.base_data.specs.contracts.rdata.soa.SOAPartialEq.TheImpl.{ghosts as s
 use Rattle.base_data.specs.declared.rdata.RData.TheVariants as kinds
 use Rattle.base_data.specs.declared.rdata.soa.SOA.{SOA}
 
-pub tells_soa : (B : List ℕ) (i : ℕ) → Tells (soa_at B i) (λ r. SOAWord r.0 B i r.1 × (r.0.mname.absolute ≡ true) × (r.0.rname.absolute ≡ true))
+pub tells_soa : (B : List ℕ) (i : ℕ) → Tells (soa_at B i)
+    (λ r. SOAWord r.0 B i r.1 × (r.0.mname.absolute ≡ true) × (r.0.rname.absolute ≡ true))
 unfolding soa_at
 tells_soa B i = tells_same
-    (tells_then (tells_name B i) (λ mname. tells_then (tells_name B mname.1) (λ rname. tells_then (tells_number w32 B rname.1) (λ serial. tells_then (tells_number w32 B serial.1) (λ refresh.
-    tells_then (tells_number w32 B refresh.1) (λ retry. tells_then (tells_number w32 B retry.1) (λ expire. tells_then (tells_number w32 B expire.1) (λ minimum.
-    tells_ok (record { mname = mname.0; rname = rname.0; serial = serial.0; refresh = refresh.0; retry = retry.0; expire = expire.0; minimum = minimum.0 }, minimum.1)))))))))
+    (tells_then (tells_name B i) (λ mname. tells_then (tells_name B mname.1)
+    (λ rname. tells_then (tells_number w32 B rname.1) (λ serial. tells_then (tells_number w32 B serial.1) (λ refresh.
+    tells_then (tells_number w32 B refresh.1)
+    (λ retry. tells_then (tells_number w32 B retry.1) (λ expire. tells_then (tells_number w32 B expire.1) (λ minimum.
+    tells_ok (
+      record {
+        mname = mname.0;
+        rname = rname.0;
+        serial = serial.0;
+        refresh = refresh.0;
+        retry =
+            retry.0;
+        expire = expire.0;
+        minimum = minimum.0;
+      },
+      minimum.1,
+    )))))))))
     (λ r (mname, m, (rname, n, (serial, a, (refresh, b, (retry, c, (expire, d, (minimum, f, is))))))).
     let main = name_here B i mname m in
     let responsible = name_here B mname.1 rname n in
-    subst (λ (x : SOA × ℕ). SOAWord x.0 B i x.1 × (x.0.mname.absolute ≡ true) × (x.0.rname.absolute ≡ true)) is
-    ((mname.1, main.0, (rname.1, responsible.0, (serial.1, a, (refresh.1, b, (retry.1, c, (expire.1, d, f)))))), main.1, responsible.1))
+    subst (λ (x : SOA × ℕ). SOAWord x.0 B i x.1 × (x.0.mname.absolute ≡ true) × (x.0.rname.absolute ≡ true)) is (
+      (mname.1, main.0, (rname.1, responsible.0, (serial.1, a, (refresh.1, b, (retry.1, c, (expire.1, d, f)))))),
+      main.1,
+      responsible.1,
+    ))
     (λ r is.
     let x = r.0 in
     let m = is.0 in
@@ -43,7 +62,15 @@ tells_soa B i = tells_same
       (
         (x.rname, n.0),
         here_name B m.0 x.rname n.0 n.1 is.2,
-        ((x.serial, a.0), a.1, ((x.refresh, b.0), b.1, ((x.retry, c.0), c.1, ((x.expire, d.0), d.1, ((x.minimum, r.1), d.2, refl))))),
+        (
+          (x.serial, a.0),
+          a.1,
+          (
+            (x.refresh, b.0),
+            b.1,
+            ((x.retry, c.0), c.1, ((x.expire, d.0), d.1, ((x.minimum, r.1), d.2, refl))),
+          ),
+        ),
       ),
     ))
 
@@ -63,7 +90,8 @@ soa_inside x B i e word = let minimum = word.2.2.2.2.2.2 in omega (arith, minimu
 -- equal exactly where each field is
 pub soa_same : (a b : SOA)
     → IsTrue (soa_equality.eq a b) ↔
-    (IsTrue (same_name a.mname b.mname) × IsTrue (same_name a.rname b.rname) × (a.serial ≡ b.serial) × (a.refresh ≡ b.refresh) × (a.retry ≡ b.retry) × (a.expire ≡ b.expire) × (a.minimum ≡ b.minimum))
+    (IsTrue (same_name a.mname b.mname) × IsTrue (same_name a.rname b.rname) × (a.serial ≡ b.serial)
+    × (a.refresh ≡ b.refresh) × (a.retry ≡ b.retry) × (a.expire ≡ b.expire) × (a.minimum ≡ b.minimum))
 soa_same a b = (
   λ h.
       let n = second_so (same_name a.mname b.mname) _ h in
@@ -79,11 +107,14 @@ soa_same a b = (
         number_is _ _ (first_so (a.expire == b.expire) _ s),
         number_is _ _ (second_so (a.expire == b.expire) _ s),
       ),
-  λ f. both _ _ f.0 (both _ _ f.1 (both _ _ (is_number _ _ f.2) (both _ _ (is_number _ _ f.3) (both _ _ (is_number _ _ f.4) (both _ _ (is_number _ _ f.5) (is_number _ _ f.6)))))),
+  λ f. both _ _ f.0 (both _ _ f.1 (both _ _ (is_number _ _ f.2)
+      (both _ _ (is_number _ _ f.3) (both _ _ (is_number _ _ f.4)
+      (both _ _ (is_number _ _ f.5) (is_number _ _ f.6)))))),
 )
 
 -- labels after which a zero byte stands
-labels_first : (xs ys : List (List ℕ)) (s t : List ℕ) → AreLabels xs → AreLabels ys → wire_of xs ++ 0 ∷ s ≡ wire_of ys ++ 0 ∷ t → (wire_of xs ≡ wire_of ys) × (s ≡ t)
+labels_first : (xs ys : List (List ℕ)) (s t : List ℕ) → AreLabels xs → AreLabels ys
+    → wire_of xs ++ 0 ∷ s ≡ wire_of ys ++ 0 ∷ t → (wire_of xs ≡ wire_of ys) × (s ≡ t)
 unfolding wire_of
 labels_first [] [] s t a b e = (refl, ap (drop 1) e)
 labels_first [] (y ∷ ys) s t a b e =
@@ -114,7 +145,8 @@ AreLabels-folded (label ∷ labels) a = (
 )
 
 -- a name in canonical form tells where it ends
-name_first : (a b : NameValue) (s t : List ℕ) → AreLabels a.labels → AreLabels b.labels → name_octets a ++ s ≡ name_octets b ++ t → (canonical_name a ≡ canonical_name b) × (s ≡ t)
+name_first : (a b : NameValue) (s t : List ℕ) → AreLabels a.labels → AreLabels b.labels
+    → name_octets a ++ s ≡ name_octets b ++ t → (canonical_name a ≡ canonical_name b) × (s ≡ t)
 name_first a b s t p q e =
     labels_first (folded a) (folded b) s t (AreLabels-folded a.labels p) (AreLabels-folded b.labels q)
     (sym (append_assoc (canonical_name a) (0 ∷ []) s) ∙ e ∙ append_assoc (canonical_name b) (0 ∷ []) t)
@@ -122,16 +154,19 @@ name_first a b s t p q e =
 -- two names, and numbers after them
 joined : (m r a b c d e : List ℕ) → m ++ r ++ a ++ b ++ c ++ d ++ e ≡ m ++ (r ++ (a ++ b ++ c ++ d ++ e))
 joined m r a b c d e =
-    ap (λ (xs : List ℕ). xs ++ e) (ap (λ (xs : List ℕ). xs ++ d) (ap (λ (xs : List ℕ). xs ++ c) (append_assoc (m ++ r) a b) ∙ append_assoc (m ++ r) (a ++ b) c)
+    ap (λ (xs : List ℕ). xs ++ e) (ap (λ (xs : List ℕ). xs ++ d)
+    (ap (λ (xs : List ℕ). xs ++ c) (append_assoc (m ++ r) a b) ∙ append_assoc (m ++ r) (a ++ b) c)
     ∙ append_assoc (m ++ r) (a ++ b ++ c) d)
     ∙ append_assoc (m ++ r) (a ++ b ++ c ++ d) e ∙ append_assoc m r (a ++ b ++ c ++ d ++ e)
 
 -- the order ties exactly what is equal
-pub soa_is : (x y : SOA) → KeptData (kinds.SOA x) → KeptData (kinds.SOA y) → IsSame (kinds.SOA x) (kinds.SOA y) ↔ IsTrue (equality.eq (kinds.SOA x) (kinds.SOA y))
+pub soa_is : (x y : SOA) → KeptData (kinds.SOA x) → KeptData (kinds.SOA y)
+    → IsSame (kinds.SOA x) (kinds.SOA y) ↔ IsTrue (equality.eq (kinds.SOA x) (kinds.SOA y))
 soa_is x y p q = (there, back) where
   there : IsSame (kinds.SOA x) (kinds.SOA y) → IsTrue (equality.eq (kinds.SOA x) (kinds.SOA y))
   there s =
-      let apart = sym (joined (name_octets x.mname) (name_octets x.rname) _ _ _ _ _) ∙ s.bytes ∙ joined (name_octets y.mname) (name_octets y.rname) _ _ _ _ _ in
+      let apart = sym (joined (name_octets x.mname) (name_octets x.rname) _ _ _ _ _) ∙ s.bytes
+      ∙ joined (name_octets y.mname) (name_octets y.rname) _ _ _ _ _ in
       let first = name_first x.mname y.mname _ _ p.0.0 q.0.0 apart in
       let second = name_first x.rname y.rname _ _ p.1.0.0 q.1.0.0 first.1 in
       let digits = second.1 in
@@ -151,7 +186,8 @@ soa_is x y p q = (there, back) where
       let m = name_same x.mname y.mname f.0 in
       let r = name_same x.rname y.rname f.1 in
       record {
-        bytes = λ i. m.0 i ++ r.0 i ++ to_be_bytes w32 (f.2 i) ++ to_be_bytes w32 (f.3 i) ++ to_be_bytes w32 (f.4 i) ++ to_be_bytes w32 (f.5 i) ++ to_be_bytes w32 (f.6 i);
+        bytes = λ i. m.0 i ++ r.0 i ++ to_be_bytes w32 (f.2 i) ++ to_be_bytes w32 (f.3 i) ++ to_be_bytes w32
+            (f.4 i) ++ to_be_bytes w32 (f.5 i) ++ to_be_bytes w32 (f.6 i);
         type = refl;
         rank = refl;
         flags = λ i. m.1 i ∷ r.1 i ∷ [];

@@ -9,8 +9,8 @@ use Rattle.std.specs.Prelude.{◌↔◌}
 use Rattle.std.specs.declared.cmp.Ordering.TheVariants.{Equal, Greater, Less}
 use Rattle.std.specs.declared.cmp.Ordering.{Ordering}
 use Rattle.base.specs.Keys.{keys_match}
-use Rattle.base.specs.Labels.{NameValue}
-use Rattle.base.specs.NameOrder.{same_name}
+use Rattle.base.specs.names.Labels.{NameValue}
+use Rattle.base.specs.names.NameOrder.{same_name}
 use Rattle.base.specs.RecordType.{same_type, type_cmp, type_number, type_rank}
 use Rattle.base.specs.declared.record_type.RecordType.{RecordType}
 use Rattle.base_data.proofs.NameWords.{name_same, octets_same, same_name-from}
@@ -34,7 +34,8 @@ then_tied Less q = (λ h. cc, λ h. h.0)
 then_tied Equal q = (λ h. (refl, h), λ h. h.1)
 then_tied Greater q = (λ h. cc, λ h. h.0)
 
-tied_same : {K : Type 0} {R : K → K → Ordering} → IsTotalOrder R → ((x y : K) → R x y ≡ Equal → x ≡ y) → (x y : K) → (R x y ≡ Equal) ↔ (x ≡ y)
+tied_same : {K : Type 0} {R : K → K → Ordering} → IsTotalOrder R → ((x y : K) → R x y ≡ Equal → x ≡ y) → (x y : K)
+    → (R x y ≡ Equal) ↔ (x ≡ y)
 tied_same {R = R} total exact x y = (exact x y, λ same. subst (λ z. R x z ≡ Equal) same (tied_itself total x))
 
 pub types_Decide : (a b : RecordType) → Decides (same_type a b) (a ≡ b)
@@ -77,16 +78,22 @@ tied a b =
     )
 
 -- data of different kinds
-pub apart : (a b : RData) → false ≡ is_eq (nat_cmp (kind_rank a) (kind_rank b)) → equality.eq a b ≡ false → IsSame a b ↔ IsTrue (equality.eq a b)
+pub apart : (a b : RData) → false ≡ is_eq (nat_cmp (kind_rank a) (kind_rank b)) → equality.eq a b ≡ false
+    → IsSame a b ↔ IsTrue (equality.eq a b)
 apart a b ranks other = (
-  λ s. absurd (true≢false (sym (ranks ∙ ap is_eq ((tied_same nat_cmp_total numbers_tied (kind_rank a) (kind_rank b)).1 s.rank)))),
+  λ s. absurd (true≢false (sym (ranks ∙ ap is_eq
+      ((tied_same nat_cmp_total numbers_tied (kind_rank a) (kind_rank b)).1 s.rank)))),
   λ h. absurd (true≢false (sym h ∙ other)),
 )
 
 -- data that is its bytes
-pub as_bytes : (a b : RData) → type_of_data a ≡ type_of_data b → kind_rank a ≡ kind_rank b → name_flags a ≡ name_flags b → Decides (equality.eq a b) (canonical_data a ≡ canonical_data b)
+pub as_bytes : (a b : RData) → type_of_data a ≡ type_of_data b → kind_rank a ≡ kind_rank b → name_flags a ≡ name_flags b
+    → Decides (equality.eq a b) (canonical_data a ≡ canonical_data b)
     → IsSame a b ↔ IsTrue (equality.eq a b)
-as_bytes a b type rank flags d = (λ s. d.1 s.bytes, λ h. record { bytes = d.0 h; type = type; rank = rank; flags = flags })
+as_bytes a b type rank flags d = (
+  λ s. d.1 s.bytes,
+  λ h. record { bytes = d.0 h; type = type; rank = rank; flags = flags },
+)
 
 -- a flag after others
 pub flag_of : (n : ℕ) (x y : List Bool) → x ≡ y → get_or x n false ≡ get_or y n false
@@ -94,7 +101,8 @@ flag_of n x y e = ap (λ (l : List Bool). get_or l n false) e
 
 -- data that is a name
 pub as_name : (a b : RData) (x y : NameValue) → type_of_data a ≡ type_of_data b → kind_rank a ≡ kind_rank b
-    → (canonical_data a ≡ canonical_data b → name_octets x ≡ name_octets y) → (name_octets x ≡ name_octets y → canonical_data a ≡ canonical_data b)
+    → (canonical_data a ≡ canonical_data b → name_octets x ≡ name_octets y)
+    → (name_octets x ≡ name_octets y → canonical_data a ≡ canonical_data b)
     → (name_flags a ≡ name_flags b → x.absolute ≡ y.absolute) → (x.absolute ≡ y.absolute → name_flags a ≡ name_flags b)
     → IsSame a b ↔ IsTrue (same_name x y)
 as_name a b x y type rank bytes back flag flags = (

@@ -1,5 +1,5 @@
 -- Equal data whose names are the same, two at most, is the same.
-use Rattle.base.specs.Labels.{NameValue}
+use Rattle.base.specs.names.Labels.{NameValue}
 use Rattle.base_data.proofs.ByteWords.{bytes_same}
 use Rattle.base_data.proofs.Comparing.{options_decide}
 use Rattle.base_data.proofs.EqualData.{a_same, aaaa_same, unknown_same}
@@ -20,7 +20,8 @@ use Rattle.std.proofs.Common.{List, [], ◌∷◌, ◌≤◌, ap, arith, length,
 use Rattle.std.specs.Prelude.{slice_get}
 
 -- lists of two at most are the same by their first and second items
-two_same : {A : Type 0} (xs ys : List A) → length xs ≤ 2 → length ys ≤ 2 → slice_get xs 0 ≡ slice_get ys 0 → slice_get xs 1 ≡ slice_get ys 1 → xs ≡ ys
+two_same : {A : Type 0} (xs ys : List A) → length xs ≤ 2 → length ys ≤ 2 → slice_get xs 0 ≡ slice_get ys 0
+    → slice_get xs 1 ≡ slice_get ys 1 → xs ≡ ys
 two_same [] [] p q e f = refl
 two_same (x ∷ []) (y ∷ []) p q e f = cc
 two_same (x ∷ x' ∷ []) (y ∷ y' ∷ y'' ∷ ys) p q e f = absurd (omega arith)
@@ -36,8 +37,18 @@ second_is a b c d xs ys e = cc
 mx_is : (a b : MX) → a.preference ≡ b.preference → a.exchange ≡ b.exchange → a ≡ b
 mx_is a b p n = λ i. record { preference = p i; exchange = n i }
 
-soa_is : (a b : SOA) → a.mname ≡ b.mname → a.rname ≡ b.rname → a.serial ≡ b.serial → a.refresh ≡ b.refresh → a.retry ≡ b.retry → a.expire ≡ b.expire → a.minimum ≡ b.minimum → a ≡ b
-soa_is a b m r s f t e n = λ i. record { mname = m i; rname = r i; serial = s i; refresh = f i; retry = t i; expire = e i; minimum = n i }
+soa_is : (a b : SOA) → a.mname ≡ b.mname → a.rname ≡ b.rname → a.serial ≡ b.serial → a.refresh ≡ b.refresh
+    → a.retry ≡ b.retry → a.expire ≡ b.expire → a.minimum ≡ b.minimum → a ≡ b
+soa_is a b m r s f t e n = λ i. record {
+  mname = m i;
+  rname = r i;
+  serial = s i;
+  refresh = f i;
+  retry = t i;
+  expire =
+      e i;
+  minimum = n i;
+}
 
 srv_is : (a b : SRV) → a.priority ≡ b.priority → a.weight ≡ b.weight → a.port ≡ b.port → a.target ≡ b.target → a ≡ b
 srv_is a b p w q n = λ i. record { priority = p i; weight = w i; port = q i; target = n i }
@@ -46,11 +57,16 @@ srv_is a b p w q n = λ i. record { priority = p i; weight = w i; port = q i; ta
 one_data : (a b : RData) → same_data a b ≡ true → data_names a ≡ data_names b → a ≡ b
 one_data (kinds.A a) (kinds.A b) h n = ap kinds.A ((a_same a b).0 h)
 one_data (kinds.AAAA a) (kinds.AAAA b) h n = ap kinds.AAAA ((aaaa_same a b).0 h)
-one_data (kinds.NS a) (kinds.NS b) h n = ap (λ (x : NameValue). kinds.NS (record { name = x })) (name_is a.name b.name _ _ n)
-one_data (kinds.CNAME a) (kinds.CNAME b) h n = ap (λ (x : NameValue). kinds.CNAME (record { name = x })) (name_is a.name b.name _ _ n)
-one_data (kinds.PTR a) (kinds.PTR b) h n = ap (λ (x : NameValue). kinds.PTR (record { name = x })) (name_is a.name b.name _ _ n)
-one_data (kinds.ANAME a) (kinds.ANAME b) h n = ap (λ (x : NameValue). kinds.ANAME (record { name = x })) (name_is a.name b.name _ _ n)
-one_data (kinds.MX a) (kinds.MX b) h n = ap kinds.MX (mx_is a b ((mx_same a b).0 h).0 (name_is a.exchange b.exchange _ _ n))
+one_data (kinds.NS a) (kinds.NS b) h n = ap (λ (x : NameValue). kinds.NS (record { name = x }))
+    (name_is a.name b.name _ _ n)
+one_data (kinds.CNAME a) (kinds.CNAME b) h n =
+    ap (λ (x : NameValue). kinds.CNAME (record { name = x })) (name_is a.name b.name _ _ n)
+one_data (kinds.PTR a) (kinds.PTR b) h n =
+    ap (λ (x : NameValue). kinds.PTR (record { name = x })) (name_is a.name b.name _ _ n)
+one_data (kinds.ANAME a) (kinds.ANAME b) h n =
+    ap (λ (x : NameValue). kinds.ANAME (record { name = x })) (name_is a.name b.name _ _ n)
+one_data (kinds.MX a) (kinds.MX b) h n = ap kinds.MX
+    (mx_is a b ((mx_same a b).0 h).0 (name_is a.exchange b.exchange _ _ n))
 one_data (kinds.SOA a) (kinds.SOA b) h n =
     let f = (soa_same a b).0 h in
     ap kinds.SOA (soa_is a b (name_is a.mname b.mname _ _ n) (second_is _ a.rname _ b.rname _ _ n) f.2 f.3 f.4 f.5 f.6)
@@ -69,7 +85,8 @@ one_data _ _ h n = cc
 
 -- equal data whose first and second names are the same is the same
 pub identical : (a b : RData) → length (data_names a) ≤ 2 → length (data_names b) ≤ 2 → same_data a b ≡ true
-    → slice_get (data_names a) 0 ≡ slice_get (data_names b) 0 → slice_get (data_names a) 1 ≡ slice_get (data_names b) 1 → a ≡ b
+    → slice_get (data_names a) 0 ≡ slice_get (data_names b) 0 → slice_get (data_names a) 1 ≡ slice_get (data_names b) 1
+    → a ≡ b
 identical a b p q h first second = one_data a b h (two_same (data_names a) (data_names b) p q first second)
 
 pub equal_to_itself : (a b : RData) → a ≡ b → same_data a b ≡ true

@@ -1,10 +1,12 @@
 -- The string of an item is what its pieces say.
-use Rattle.std.proofs.Common.{◌≡◌, ◌≢◌, ℕ, zero, suc, ◌+◌, ◌-◌, ◌*◌, ◌<◌, ◌≤◌, List, [], ◌∷◌, length, refl, ap, sym, ◌∙◌, subst, arith, Bool, true, false, Option, Some, None}
+use Rattle.std.proofs.Common.{◌≡◌, ◌≢◌, ℕ, zero, suc, ◌+◌, ◌-◌, ◌*◌, ◌<◌, ◌≤◌, List, [], ◌∷◌, length, refl, ap, sym}
+use Rattle.std.proofs.Common.{◌∙◌, subst, arith, Bool, true, false, Option, Some, None}
 use Rattle.std.specs.Prelude.{◌↔◌, ◌==◌, nat_le, nat_lt, if◌then◌else◌}
 use Rattle.std.specs.Char.{is_ascii_digit}
 use Rattle.std.proofs.lemmas.Bool.Decides.{nat_tests}
 use Rattle.base_data.proofs.StringItemLemmas.{before-nil}
-use Rattle.base_data.specs.StringItems.{no_escape, IsStringText, is_end, is_plain, is_escaped, is_number, put_before_all, if_short, string_item, unescaped}
+use Rattle.base_data.specs.StringItems.{no_escape, IsStringText, is_end, is_plain, is_escaped, is_number}
+use Rattle.base_data.specs.StringItems.{put_before_all, if_short, string_item, unescaped}
 
 -- the number of three digits, as it is read
 abbrev number_said : ℕ → ℕ → ℕ → ℕ
@@ -13,16 +15,20 @@ number_said a b c = ((a - 48) * 10 + (b - 48)) * 10 + (c - 48)
 -- what the digits of a number read as
 digits_read : (a b c : ℕ) (rest : List ℕ) → is_ascii_digit a ≡ true → is_ascii_digit b ≡ true → is_ascii_digit c ≡ true
     → (fits : Bool) → nat_lt (number_said a b c) 256 ≡ fits
-    → unescaped no_escape (92 ∷ a ∷ b ∷ c ∷ rest) ≡ (if fits then put_before_all (number_said a b c ∷ []) (unescaped no_escape rest) else None)
+    → unescaped no_escape (92 ∷ a ∷ b ∷ c ∷ rest)
+    ≡ (if fits then put_before_all (number_said a b c ∷ []) (unescaped no_escape rest) else None)
 unfolding unescaped
-digits_read a b c rest first second third true fits = rw (first, second, third, fits) (before-nil _ ∙ before-nil _ ∙ before-nil _)
+digits_read a b c rest first second third true fits =
+    rw (first, second, third, fits) (before-nil _ ∙ before-nil _ ∙ before-nil _)
 digits_read a b c rest first second third false fits = rw (first, second, third, fits) refl
 
-escaped_read : (c : ℕ) (rest : List ℕ) → is_ascii_digit c ≡ false → unescaped no_escape (92 ∷ c ∷ rest) ≡ put_before_all (c ∷ []) (unescaped no_escape rest)
+escaped_read : (c : ℕ) (rest : List ℕ) → is_ascii_digit c ≡ false
+    → unescaped no_escape (92 ∷ c ∷ rest) ≡ put_before_all (c ∷ []) (unescaped no_escape rest)
 unfolding unescaped
 escaped_read c rest digit = rw digit (before-nil _)
 
-plain_read : (c : ℕ) (rest : List ℕ) → (c == 92) ≡ false → unescaped no_escape (c ∷ rest) ≡ put_before_all (c ∷ []) (unescaped no_escape rest)
+plain_read : (c : ℕ) (rest : List ℕ) → (c == 92) ≡ false
+    → unescaped no_escape (c ∷ rest) ≡ put_before_all (c ∷ []) (unescaped no_escape rest)
 unfolding unescaped
 plain_read c rest plain = rw plain refl
 
@@ -32,8 +38,10 @@ end_read = refl
 
 said_is_read : {text bytes : List ℕ} → IsStringText text bytes → unescaped no_escape text ≡ Some bytes
 said_is_read is_end = end_read
-said_is_read (is_plain {c} {text} {bytes} other says) = plain_read c text (grind (arith, nat_tests)) ∙ ap (put_before_all (c ∷ [])) (said_is_read says)
-said_is_read (is_escaped {c} {text} {bytes} digit says) = escaped_read c text digit ∙ ap (put_before_all (c ∷ [])) (said_is_read says)
+said_is_read (is_plain {c} {text} {bytes} other says) =
+    plain_read c text (grind (arith, nat_tests)) ∙ ap (put_before_all (c ∷ [])) (said_is_read says)
+said_is_read (is_escaped {c} {text} {bytes} digit says) =
+    escaped_read c text digit ∙ ap (put_before_all (c ∷ [])) (said_is_read says)
 said_is_read (is_number {a} {b} {c} {n} {text} {bytes} first second third is small says) =
     let value : number_said a b c ≡ n = omega arith in
     let fits : nat_lt (number_said a b c) 256 ≡ true = grind (arith, nat_tests) in
@@ -45,7 +53,8 @@ record IsAfter (b : ℕ) (read : Option (List ℕ)) (bytes : List ℕ) : Type 0 
   is : read ≡ Some rest
   all : b ∷ rest ≡ bytes
 
-after : (b : ℕ) (read : Option (List ℕ)) (bytes : List ℕ) → put_before_all (b ∷ []) read ≡ Some bytes → IsAfter b read bytes
+after : (b : ℕ) (read : Option (List ℕ)) (bytes : List ℕ) → put_before_all (b ∷ []) read ≡ Some bytes
+    → IsAfter b read bytes
 after b None bytes e = absurd cc
 after b (Some rest) bytes e = record { rest = rest; is = refl; all = cc }
 
@@ -56,7 +65,8 @@ no_bytes e = cc
 abbrev Says : ℕ → Type 0
 Says n = (text bytes : List ℕ) → length text ≤ n → unescaped no_escape text ≡ Some bytes → IsStringText text bytes
 
-plain_says : (n : ℕ) → Says n → (c : ℕ) (text bytes : List ℕ) → length text ≤ n → (c == 92) ≡ false → unescaped no_escape (c ∷ text) ≡ Some bytes → IsStringText (c ∷ text) bytes
+plain_says : (n : ℕ) → Says n → (c : ℕ) (text bytes : List ℕ) → length text ≤ n → (c == 92) ≡ false
+    → unescaped no_escape (c ∷ text) ≡ Some bytes → IsStringText (c ∷ text) bytes
 plain_says n says c text bytes short plain read =
     let other : c ≢ 92 = λ (e : c ≡ 92). grind (arith, nat_tests) in
     let b = after c (unescaped no_escape text) bytes (sym (plain_read c text plain) ∙ read) in
@@ -73,16 +83,19 @@ unfinished : (a : ℕ) → is_ascii_digit a ≡ true → unescaped no_escape (92
 unfolding unescaped
 unfinished a first = rw first refl
 
-unfinished_two : (a b : ℕ) → is_ascii_digit a ≡ true → (digit : Bool) → is_ascii_digit b ≡ digit → unescaped no_escape (92 ∷ a ∷ b ∷ []) ≡ None
+unfinished_two : (a b : ℕ) → is_ascii_digit a ≡ true → (digit : Bool) → is_ascii_digit b ≡ digit
+    → unescaped no_escape (92 ∷ a ∷ b ∷ []) ≡ None
 unfolding unescaped
 unfinished_two a b first true second = rw (first, second) refl
 unfinished_two a b first false second = rw (first, second) refl
 
-no_second : (a b : ℕ) (rest : List ℕ) → is_ascii_digit a ≡ true → is_ascii_digit b ≡ false → unescaped no_escape (92 ∷ a ∷ b ∷ rest) ≡ None
+no_second : (a b : ℕ) (rest : List ℕ) → is_ascii_digit a ≡ true → is_ascii_digit b ≡ false
+    → unescaped no_escape (92 ∷ a ∷ b ∷ rest) ≡ None
 unfolding unescaped
 no_second a b rest first second = rw (first, second) refl
 
-no_third : (a b c : ℕ) (rest : List ℕ) → is_ascii_digit a ≡ true → is_ascii_digit b ≡ true → is_ascii_digit c ≡ false → unescaped no_escape (92 ∷ a ∷ b ∷ c ∷ rest) ≡ None
+no_third : (a b c : ℕ) (rest : List ℕ) → is_ascii_digit a ≡ true → is_ascii_digit b ≡ true → is_ascii_digit c ≡ false
+    → unescaped no_escape (92 ∷ a ∷ b ∷ c ∷ rest) ≡ None
 unfolding unescaped
 no_third a b c rest first second third = rw (first, second, third) refl
 
@@ -93,19 +106,28 @@ only_backslash = refl
 number_says : (n : ℕ) → Says n → (a : ℕ) (text bytes : List ℕ) → length text ≤ n → is_ascii_digit a ≡ true
     → unescaped no_escape (92 ∷ a ∷ text) ≡ Some bytes → IsStringText (92 ∷ a ∷ text) bytes
 number_says n says a [] bytes short first read = absurd (no_bytes (sym (unfinished a first) ∙ read))
-number_says n says a (b ∷ []) bytes short first read = absurd (no_bytes (sym (unfinished_two a b first (is_ascii_digit b) refl) ∙ read))
-number_says n says a (b ∷ c ∷ text) bytes short first read = go (is_ascii_digit b) (is_ascii_digit c) (nat_lt (number_said a b c) 256) refl refl refl where
-  go : (second third fits : Bool) → is_ascii_digit b ≡ second → is_ascii_digit c ≡ third → nat_lt (number_said a b c) 256 ≡ fits → IsStringText (92 ∷ a ∷ b ∷ c ∷ text) bytes
-  go false third fits second_is third_is fits_is = absurd (no_bytes (sym (no_second a b (c ∷ text) first second_is) ∙ read))
-  go true false fits second_is third_is fits_is = absurd (no_bytes (sym (no_third a b c text first second_is third_is) ∙ read))
-  go true true false second_is third_is fits_is = absurd (no_bytes (sym (digits_read a b c text first second_is third_is false fits_is) ∙ read))
-  go true true true second_is third_is fits_is =
-      let value : number_said a b c ≡ (a - 48) * 100 + (b - 48) * 10 + (c - 48) = omega arith in
-      let small : number_said a b c < 256 = grind (arith, nat_tests) in
-      let b' = after (number_said a b c) (unescaped no_escape text) bytes (sym (digits_read a b c text first second_is third_is true fits_is) ∙ read) in
-      subst (IsStringText (92 ∷ a ∷ b ∷ c ∷ text)) b'.all (is_number first second_is third_is value small (says text b'.rest (omega arith) b'.is))
+number_says n says a (b ∷ []) bytes short first read =
+    absurd (no_bytes (sym (unfinished_two a b first (is_ascii_digit b) refl) ∙ read))
+number_says n says a (b ∷ c ∷ text) bytes short first read =
+    go (is_ascii_digit b) (is_ascii_digit c) (nat_lt (number_said a b c) 256) refl refl refl where
+      go : (second third fits : Bool) → is_ascii_digit b ≡ second → is_ascii_digit c ≡ third
+          → nat_lt (number_said a b c) 256 ≡ fits → IsStringText (92 ∷ a ∷ b ∷ c ∷ text) bytes
+      go false third fits second_is third_is fits_is =
+          absurd (no_bytes (sym (no_second a b (c ∷ text) first second_is) ∙ read))
+      go true false fits second_is third_is fits_is =
+          absurd (no_bytes (sym (no_third a b c text first second_is third_is) ∙ read))
+      go true true false second_is third_is fits_is =
+          absurd (no_bytes (sym (digits_read a b c text first second_is third_is false fits_is) ∙ read))
+      go true true true second_is third_is fits_is =
+          let value : number_said a b c ≡ (a - 48) * 100 + (b - 48) * 10 + (c - 48) = omega arith in
+          let small : number_said a b c < 256 = grind (arith, nat_tests) in
+          let b' = after (number_said a b c) (unescaped no_escape text) bytes
+          (sym (digits_read a b c text first second_is third_is true fits_is) ∙ read) in
+          subst (IsStringText (92 ∷ a ∷ b ∷ c ∷ text)) b'.all
+          (is_number first second_is third_is value small (says text b'.rest (omega arith) b'.is))
 
-backslash_says : (n : ℕ) → Says n → (text bytes : List ℕ) → length text ≤ n → unescaped no_escape (92 ∷ text) ≡ Some bytes → IsStringText (92 ∷ text) bytes
+backslash_says : (n : ℕ) → Says n → (text bytes : List ℕ) → length text ≤ n
+    → unescaped no_escape (92 ∷ text) ≡ Some bytes → IsStringText (92 ∷ text) bytes
 backslash_says n says [] bytes short read = absurd (no_bytes (sym only_backslash ∙ read))
 backslash_says n says (a ∷ text) bytes short read = go (is_ascii_digit a) refl where
   go : (digit : Bool) → is_ascii_digit a ≡ digit → IsStringText (92 ∷ a ∷ text) bytes
@@ -113,7 +135,8 @@ backslash_says n says (a ∷ text) bytes short read = go (is_ascii_digit a) refl
   go false digit = escaped_says n says a text bytes (omega arith) digit read
 
 -- the first piece, and what is after it
-first_says : (n : ℕ) → Says n → (c : ℕ) (text bytes : List ℕ) → length text ≤ n → unescaped no_escape (c ∷ text) ≡ Some bytes → IsStringText (c ∷ text) bytes
+first_says : (n : ℕ) → Says n → (c : ℕ) (text bytes : List ℕ) → length text ≤ n
+    → unescaped no_escape (c ∷ text) ≡ Some bytes → IsStringText (c ∷ text) bytes
 first_says n says c text bytes short read = go (c == 92) refl where
   go : (escape : Bool) → (c == 92) ≡ escape → IsStringText (c ∷ text) bytes
   go true is =
@@ -149,9 +172,12 @@ short_is (Some xs) bytes e = go (nat_le (length xs) 255) refl where
     not_short : nat_le (length xs) 255 ≡ false → if_short (Some xs) ≡ None
     not_short is = rw is refl
 
-pub string_grammar : (text bytes : List ℕ) → (string_item text ≡ Some bytes) ↔ (IsStringText text bytes × (length bytes ≤ 255))
+pub string_grammar : (text bytes : List ℕ)
+    → (string_item text ≡ Some bytes) ↔ (IsStringText text bytes × (length bytes ≤ 255))
 unfolding string_item
 string_grammar text bytes = (
-  λ read. let s = short_is (unescaped no_escape text) bytes read in (read_says (length text) text bytes (omega arith) s.0, s.1),
-  λ says. let fits : nat_le (length bytes) 255 ≡ true = grind (arith, nat_tests, says.1) in ap if_short (said_is_read says.0) ∙ rw fits refl,
+  λ read. let s = short_is (unescaped no_escape text) bytes read in
+      (read_says (length text) text bytes (omega arith) s.0, s.1),
+  λ says. let fits : nat_le (length bytes) 255 ≡ true = grind (arith, nat_tests, says.1) in
+      ap if_short (said_is_read says.0) ∙ rw fits refl,
 )

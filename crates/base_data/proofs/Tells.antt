@@ -1,15 +1,16 @@
 -- What a reading answers, and where: what stands there and nothing else. No reading is refused because memory ran out.
-use Rattle.std.proofs.Common.{◌≡◌, ◌≢◌, ℕ, [], ◌+◌, ◌≤◌, Bool, true, false, cond, List, length, take, drop, refl, ap, sym, ◌∙◌, arith, Result, Ok, Err}
+use Rattle.std.proofs.Common.{◌≡◌, ◌≢◌, ℕ, [], ◌+◌, ◌≤◌, Bool, true, false, cond, List, length, take, drop, refl, ap}
+use Rattle.std.proofs.Common.{sym, ◌∙◌, arith, Result, Ok, Err}
 use Rattle.std.proofs.lemmas.Bool.{le-ltb}
 use Rattle.std.proofs.lemmas.List.{length-take, length-drop}
 use Rattle.std.specs.Int.{Width}
 use Rattle.std.specs.Prelude.{nat_lt}
-use Rattle.base.proofs.ReadLemmas.{bind_ok, bind_err, number_is, number_again, number_short}
-use Rattle.base.proofs.ReadingLemmas.{name_is, name_fault, name_again}
-use Rattle.base.specs.Faults.{IsFaulty, after_label, after_pointer}
-use Rattle.base.specs.Names.{name_at}
-use Rattle.base.specs.Reading.{Read, ◌>>=◌, bytes_at, number_at}
-use Rattle.base.specs.Spelling.{IsNameAt}
+use Rattle.base.proofs.reading.ReadLemmas.{bind_ok, bind_err, number_is, number_again, number_short}
+use Rattle.base.proofs.reading.ReadingLemmas.{name_is, name_fault, name_again}
+use Rattle.base.specs.reading.Faults.{IsFaulty, after_label, after_pointer}
+use Rattle.base.specs.reading.Names.{name_at}
+use Rattle.base.specs.reading.Reading.{Read, ◌>>=◌, bytes_at, number_at}
+use Rattle.base.specs.reading.Spelling.{IsNameAt}
 use Rattle.base.specs.Words.{Bytes, Number, Stands}
 use Rattle.base.specs.declared.error.decode_error.DecodeError.{DecodeError}
 use Rattle.base.specs.declared.error.decode_error.DecodeError.TheVariants as faults
@@ -33,16 +34,19 @@ tells_ok {X} x = record {
   ok z = Ok z
 
 -- a step, and those after it
-pub tells_then : {X Y : Type 0} {r : Result X DecodeError} {f : X → Result Y DecodeError} {P : X → Type 0} {Q : X → Y → Type 0} → Tells r P
+pub tells_then : {X Y : Type 0} {r : Result X DecodeError} {f : X → Result Y DecodeError} {P : X → Type 0} {Q : X → Y
+    → Type 0} → Tells r P
     → ((x : X) → Tells (f x) (Q x)) → Tells (r >>= f) (λ y. (x : X) × P x × Q x y)
 tells_then {X} {Y} {r} {f} {P} {Q} first others = record {
-  says = λ y is. let both = bind_ok r f y is in (both.value, first.says both.value both.first, (others both.value).says y both.second);
+  says = λ y is. let both = bind_ok r f y is in
+      (both.value, first.says both.value both.first, (others both.value).says y both.second);
   again = λ y is. ap (λ (s : Result X DecodeError). s >>= f) (first.again is.0 is.1) ∙ (others is.0).again y is.2;
   fault = λ is. bind_err r f faults.Memory ⊥ is first.fault (λ x _ after. (others x).fault after);
 }
 
 -- the same, said otherwise
-pub tells_same : {X : Type 0} {r : Result X DecodeError} {P Q : X → Type 0} → Tells r P → ((x : X) → P x → Q x) → ((x : X) → Q x → P x) → Tells r Q
+pub tells_same : {X : Type 0} {r : Result X DecodeError} {P Q : X → Type 0} → Tells r P → ((x : X) → P x → Q x)
+    → ((x : X) → Q x → P x) → Tells r Q
 tells_same t to from = record {
   says = λ x is. to x (t.says x is);
   again = λ x is. t.again x (from x is);
@@ -76,7 +80,8 @@ pub record AreBytesAt (len : ℕ) (B : List ℕ) (i : ℕ) (r : List ℕ × ℕ)
   pub counted : length r.0 ≡ len
   pub inside : i + len ≤ length B
 
-bytes_fault : {X : Type 0} (short : Bool) (x : X) → cond short (Err faults.InsufficientBytes) (Ok x) ≡ Err faults.Memory → ⊥
+bytes_fault : {X : Type 0} (short : Bool) (x : X) → cond short (Err faults.InsufficientBytes) (Ok x) ≡ Err faults.Memory
+    → ⊥
 bytes_fault true x is = cc
 bytes_fault false x is = cc
 
@@ -84,7 +89,10 @@ pub tells_bytes : (len : ℕ) (B : List ℕ) (i : ℕ) → Tells (bytes_at len B
 tells_bytes len B i = record {
   says = λ r is. let s = bytes_is len B i r is in
       record {
-        word = (record { is = ap (λ (n : ℕ). take n (drop i B)) s.counted ∙ sym s.is }, omega (arith, s.after, s.counted));
+        word = (
+          record { is = ap (λ (n : ℕ). take n (drop i B)) s.counted ∙ sym s.is },
+          omega (arith, s.after, s.counted),
+        );
         counted = s.counted;
         inside = s.inside;
       };
@@ -108,14 +116,23 @@ pub record Fills {X : Type 0} (read : Read X) (end : ℕ) (Is : X → Type 0) : 
   pub again : (x : X) → Is x → read ≡ Ok (x, end)
   pub fault : read ≡ Err faults.Memory → ⊥
 
-pub fills_from : {X : Type 0} {read : Read X} {P : X × ℕ → Type 0} (end : ℕ) → Tells read P → Fills read end (λ x. P (x, end))
+pub fills_from : {X : Type 0} {read : Read X} {P : X × ℕ → Type 0} (end : ℕ) → Tells read P
+    → Fills read end (λ x. P (x, end))
 fills_from end t = record { says = λ x is. t.says (x, end) is; again = λ x is. t.again (x, end) is; fault = t.fault }
 
-pub fills_same : {X : Type 0} {read : Read X} {end : ℕ} {P Q : X → Type 0} → Fills read end P → ((x : X) → P x → Q x) → ((x : X) → Q x → P x) → Fills read end Q
-fills_same t to from = record { says = λ x is. to x (t.says x is); again = λ x is. t.again x (from x is); fault = t.fault }
+pub fills_same : {X : Type 0} {read : Read X} {end : ℕ} {P Q : X → Type 0} → Fills read end P → ((x : X) → P x → Q x)
+    → ((x : X) → Q x → P x) → Fills read end Q
+fills_same t to from = record {
+  says = λ x is. to x (t.says x is);
+  again = λ x is. t.again x (from x is);
+  fault =
+      t.fault;
+}
 
 -- bytes, one at least, fill as many
-pub fills_bytes : (len : ℕ) (B : List ℕ) (i : ℕ) → 1 ≤ len → Fills (bytes_at len B i) (i + len) (λ x. Bytes x B i (i + len) × (x ≢ []))
+pub fills_bytes : (len : ℕ) (B : List ℕ) (i : ℕ) → 1 ≤ len
+    → Fills (bytes_at len B i) (i + len) (λ x. Bytes x B i (i + len) × (x ≢ []))
 fills_bytes len B i some = fills_same (fills_from (i + len) (tells_bytes len B i))
     (λ x is. (is.word, λ none. absurd (omega (arith, is.counted, ap length none))))
-    (λ x is. let counted : length x ≡ len = omega (arith, is.0.1) in record { word = is.0; counted = counted; inside = omega (arith, room_for x B i is.0.0 (omega arith), counted) })
+    (λ x is. let counted : length x ≡ len = omega (arith, is.0.1) in
+    record { word = is.0; counted = counted; inside = omega (arith, room_for x B i is.0.0 (omega arith), counted) })

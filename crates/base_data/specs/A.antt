@@ -1,13 +1,13 @@
 -- Addresses of four bytes (RFC 1035, 3.4.1).
 use Rattle.std.specs.Prelude.{◌≡◌, ℕ, List, [], ◌∷◌, length, Ok, Option, Some, None, option_map}
-use Rattle.base.specs.Reading.{Read, bytes_at, ◌>>=◌}
+use Rattle.base.specs.reading.Reading.{Read, bytes_at, ◌>>=◌}
 use Rattle.base_data.specs.declared.rdata.a.A.{A}
 use Rattle.base_data.specs.Fields.{ipv4_item}
 use Rattle.base_data.specs.Kind.{AreOctets, Kind, bare, no_places}
 use Rattle.std.specs.Net.Text.{ipv4_text}
 use Rattle.base.specs.Words.{Bytes}
-use Rattle.base.specs.SaysParts.{Says-bytes}
-use Rattle.base.specs.Written.{just}
+use Rattle.base.specs.writing.SaysParts.{Says-bytes}
+use Rattle.base.specs.writing.Written.{just}
 
 -- the address at a place
 abbrev pub a_at : List ℕ → ℕ → Read A

@@ -1,14 +1,15 @@
 -- Addresses of sixteen bytes (RFC 3596, 2.2), and their text (RFC 5952, 4).
-use Rattle.std.specs.Prelude.{◌≡◌, ℕ, ◌+◌, ◌≤◌, List, [], ◌∷◌, length, take, drop, replicate, Ok, Option, Some, None, option_map}
+use Rattle.std.specs.Prelude.{◌≡◌, ℕ, ◌+◌, ◌≤◌, List, [], ◌∷◌, length, take, drop, replicate, Ok, Option, Some, None}
+use Rattle.std.specs.Prelude.{option_map}
 use Rattle.std.specs.Net.Addr.{segments_of}
 use Rattle.std.specs.Net.Text.{hex_groups_text}
-use Rattle.base.specs.Reading.{Read, bytes_at, ◌>>=◌}
+use Rattle.base.specs.reading.Reading.{Read, bytes_at, ◌>>=◌}
 use Rattle.base_data.specs.declared.rdata.aaaa.AAAA.{AAAA}
 use Rattle.base_data.specs.Fields.{ipv6_item}
 use Rattle.base_data.specs.Kind.{AreOctets, Kind, bare, no_places}
 use Rattle.base.specs.Words.{Bytes}
-use Rattle.base.specs.SaysParts.{Says-bytes}
-use Rattle.base.specs.Written.{just}
+use Rattle.base.specs.writing.SaysParts.{Says-bytes}
+use Rattle.base.specs.writing.Written.{just}
 
 -- the address at a place
 abbrev pub aaaa_at : List ℕ → ℕ → Read AAAA

@@ -1,12 +1,12 @@
 -- ANAME data: a name whose addresses the owner has too.
 use Rattle.std.specs.Prelude.{ℕ, List, Option}
-use Rattle.base.specs.Labels.{NameValue}
-use Rattle.base.specs.Reading.{Read}
+use Rattle.base.specs.names.Labels.{NameValue}
+use Rattle.base.specs.reading.Reading.{Read}
 use Rattle.base_data.specs.Kind.{Kind}
 use Rattle.base_data.specs.OneName.{name_kind, one_name_at, one_name_of}
 use Rattle.base_data.specs.declared.rdata.aname.ANAME.{ANAME}
-use Rattle.base.specs.SaysName.{Says-plain_name}
-use Rattle.base.specs.Written.{plain_name}
+use Rattle.base.specs.writing.SaysName.{Says-plain_name}
+use Rattle.base.specs.writing.Written.{plain_name}
 
 -- the data at a place
 unfoldable pub aname_at : List ℕ → ℕ → Read ANAME

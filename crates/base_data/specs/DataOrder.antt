@@ -4,7 +4,7 @@ use Rattle.std.specs.Prelude.{Bool, List}
 use Rattle.std.specs.Cmp.Lexicographic.{slice_cmp}
 use Rattle.std.specs.Ordering.{bool_cmp, nat_cmp, on, then_cmp}
 use Rattle.std.specs.declared.cmp.Ordering.{Ordering}
-use Rattle.base.specs.Labels.{NameValue}
+use Rattle.base.specs.names.Labels.{NameValue}
 use Rattle.base.specs.RecordType.{type_cmp}
 use Rattle.base_data.specs.Kinds.{canonical_data, kind_rank, name_flags, type_of_data}
 use Rattle.base_data.specs.Opaque.{bytes_cmp}

@@ -1,7 +1,7 @@
 -- Equality of bytes, strings and options is an equivalence: each `impl` of equality cites its own.
 use Rattle.std.proofs.lemmas.Cmp.{and_equiv, lists_equiv, nat_eq_equiv, on_equiv}
 use Rattle.std.specs.Cmp.{IsEquivalence}
-use Rattle.base.specs.Labels.{wire_of}
+use Rattle.base.specs.names.Labels.{wire_of}
 use Rattle.base_data.specs.OPT.{same_option, same_options}
 use Rattle.base_data.specs.Opaque.{same_bytes}
 use Rattle.base_data.specs.TXT.{same_txt}

@@ -1,12 +1,13 @@
 -- The fields of data from the items of its text (RFC 1035, 3.3 and 5.1; RFC 4291, 2.2).
-use Rattle.std.specs.Prelude.{ℕ, ◌^◌, ◌&&◌, List, length, nat_lt, if◌then◌else◌, Option, Some, None, option_and_then, option_map}
+use Rattle.std.specs.Prelude.{ℕ, ◌^◌, ◌&&◌, List, length, nat_lt, if◌then◌else◌, Option, Some, None, option_and_then}
+use Rattle.std.specs.Prelude.{option_map}
 use Rattle.std.specs.Net.Addr.{octets_of}
 use Rattle.std.specs.Net.Reader.{read_ipv4, read_ipv6, whole_value}
 use Rattle.std.specs.Result.{result_ok}
 use Rattle.std.specs.Str.{all_ascii_digits}
 use Rattle.std.specs.Str.Parse.{digits_value}
-use Rattle.base.specs.Labels.{NameValue}
-use Rattle.base.specs.NameOf.{name_of}
+use Rattle.base.specs.names.Labels.{NameValue}
+use Rattle.base.specs.texts.NameOf.{name_of}
 
 -- a field, and what is made with it of the others; none where one of them is none
 infixl 10 ◌>>?◌

@@ -1,13 +1,14 @@
 -- The generic form, in which zone text has types without a name and data of any type (RFC 3597, 5).
 use Rattle.std.specs.Option.{ok_or, option_or}
 use Rattle.std.specs.List.{flat_map, starts_with}
-use Rattle.std.specs.Prelude.{ℕ, List, [], ◌∷◌, ◌==◌, codes, drop, if◌then◌else◌, length, nat_eq, None, Option, option_map, Result}
+use Rattle.std.specs.Prelude.{ℕ, List, [], ◌∷◌, ◌==◌, codes, drop, if◌then◌else◌, length, nat_eq, None, Option}
+use Rattle.std.specs.Prelude.{option_map, Result}
 use Rattle.std.specs.Result.{result_ok}
 use Rattle.std.specs.Str.{bytes_eq}
 use Rattle.hex.specs.Hex.{decode_of}
-use Rattle.base.specs.Labels.{NameValue}
+use Rattle.base.specs.names.Labels.{NameValue}
 use Rattle.base.specs.RecordType.{type_from_text, type_of}
-use Rattle.base.specs.TextFaults.{Fault, bad_data}
+use Rattle.base.specs.texts.TextFaults.{Fault, bad_data}
 use Rattle.base.specs.declared.record_type.RecordType.{RecordType}
 use Rattle.base_data.specs.Fields.{number_item, ◌>>?◌}
 use Rattle.base_data.specs.Kinds.{data_of}

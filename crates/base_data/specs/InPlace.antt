@@ -1,7 +1,7 @@
 -- Reading data into a place, and why it wasn't read.
 use Rattle.std.specs.Prelude.{◌≡◌, Result, Ok, Err}
-use Rattle.base.specs.Reader.{Reader}
-use Rattle.base.specs.Reading.{Read}
+use Rattle.base.specs.reading.Reader.{Reader}
+use Rattle.base.specs.reading.Reading.{Read}
 use Rattle.base.specs.declared.error.decode_error.DecodeError.{DecodeError}
 use Rattle.base.specs.declared.error.decode_error.DecodeError.TheVariants as faults
 use Rattle.base.specs.declared.record_type.RecordType.{RecordType}
@@ -25,7 +25,8 @@ IsBad (Err faults.Memory) = ⊥
 IsBad (Err e) = Unit {0}
 IsBad (Ok r) = ⊥
 
--- The data in a place is what reading gives, and the decoder stands after it; refused if memory runs out, or for a fault
+-- The data in a place is what reading gives, and the decoder stands after it; refused if memory runs out, or for a
+-- fault
 -- that reading meets.
 abbrev pub ReadsInto : {X : Type 0} → Reader → Reader → RData → Result X DataError → Read RData → Type 0
 ReadsInto old new d (Ok x) read = (read ≡ Ok (d, new.index)) × (new.bytes ≡ old.bytes)

@@ -1,9 +1,9 @@
 -- What is known of data of one kind: one value for each kind, in the kind's own file.
 use Rattle.base.specs.declared.limits.TheConstants.{MAX_NAME}
 use Rattle.std.specs.Prelude.{◌≡◌, ◌≢◌, ℕ, ◌<◌, ◌≤◌, false, All, List, [], length, Option}
-use Rattle.base.specs.Labels.{AreLabels, NameValue, plain_len}
-use Rattle.base.specs.Says.{Says}
-use Rattle.base.specs.Written.{Writing}
+use Rattle.base.specs.names.Labels.{AreLabels, NameValue, plain_len}
+use Rattle.base.specs.writing.Says.{Says}
+use Rattle.base.specs.writing.Written.{Writing}
 
 -- What is known of data, as a value of its kind.
 pub record Kind : Type 1 where

@@ -1,11 +1,12 @@
 -- The kinds of record data, and what is known of each: every table of kinds is a part of this one.
-use Rattle.std.specs.Prelude.{◌≢◌, ℕ, Bool, true, false, List, [], IsTrue, Option, Some, None, Result, Ok, Err, map, option_map}
+use Rattle.std.specs.Prelude.{◌≢◌, ℕ, Bool, true, false, List, [], IsTrue, Option, Some, None, Result, Ok, Err, map}
+use Rattle.std.specs.Prelude.{option_map}
 use Rattle.std.specs.Option.{ok_or}
-use Rattle.base.specs.Labels.{NameValue}
-use Rattle.base.specs.Reading.{Read, bytes_at, ◌>>=◌}
-use Rattle.base.specs.Says.{Says}
-use Rattle.base.specs.Written.{Writing}
-use Rattle.base.specs.TextFaults.{Fault, bad_data, unsupported_type}
+use Rattle.base.specs.names.Labels.{NameValue}
+use Rattle.base.specs.reading.Reading.{Read, bytes_at, ◌>>=◌}
+use Rattle.base.specs.writing.Says.{Says}
+use Rattle.base.specs.writing.Written.{Writing}
+use Rattle.base.specs.texts.TextFaults.{Fault, bad_data, unsupported_type}
 use Rattle.base.specs.declared.error.decode_error.DecodeError.TheVariants as faults
 use Rattle.base.specs.declared.record_type.RecordType.{RecordType}
 use Rattle.base.specs.declared.record_type.RecordType.TheVariants as types

@@ -1,13 +1,13 @@
 -- Authoritative servers (RFC 1035, 3.3.11).
 use Rattle.std.specs.Prelude.{ℕ, List, Option}
-use Rattle.base.specs.Labels.{NameValue}
-use Rattle.base.specs.Reading.{Read}
+use Rattle.base.specs.names.Labels.{NameValue}
+use Rattle.base.specs.reading.Reading.{Read}
 use Rattle.base_data.specs.Kind.{Kind}
 use Rattle.base_data.specs.OneName.{name_kind, one_name_at, one_name_of}
 use Rattle.base_data.specs.declared.rdata.ns.NS.{NS}
-use Rattle.base.specs.SaysName.{Says-name}
-use Rattle.base.specs.SaysParts.{Says-unowned}
-use Rattle.base.specs.Written.{name}
+use Rattle.base.specs.writing.SaysName.{Says-name}
+use Rattle.base.specs.writing.SaysParts.{Says-unowned}
+use Rattle.base.specs.writing.Written.{name}
 
 -- the data at a place
 unfoldable pub ns_at : List ℕ → ℕ → Read NS

@@ -1,19 +1,20 @@
 -- EDNS options: each a code, a length and that number of bytes (RFC 6891, 6.1.2).
-use Rattle.std.specs.Prelude.{ℕ, Bool, ◌+◌, ◌^◌, ◌<◌, ◌==◌, not, List, [], ◌∷◌, ◌++◌, zero, suc, length, filter, find, position, slice_set, nat_eq, nat_le, if◌then◌else◌, Option, None, Ok, ◌≢◌, All}
+use Rattle.std.specs.Prelude.{ℕ, Bool, ◌+◌, ◌^◌, ◌<◌, ◌==◌, not, List, [], ◌∷◌, ◌++◌, zero, suc, length, filter, find}
+use Rattle.std.specs.Prelude.{position, slice_set, nat_eq, nat_le, if◌then◌else◌, Option, None, Ok, ◌≢◌, All}
 use Rattle.std.proofs.Common.{◌≡◌, subst, arith}
 use Rattle.std.proofs.lemmas.List.Elements.{All-head, All-tail}
 use Rattle.std.specs.Cmp.Lexicographic.{pointwise}
 use Rattle.std.specs.Int.{w16, to_be_bytes}
 use Rattle.std.specs.Option.{option_map_or}
 use Rattle.std.specs.Ordering.{eq_of_both, on}
-use Rattle.base.specs.Reading.{Read, bytes_at, number_at, ◌>>=◌}
-use Rattle.base.specs.Says.{Says}
-use Rattle.base.specs.SaysParts.{Says-both, Says-bytes, Says-just, Says-number, Says-weaker}
+use Rattle.base.specs.reading.Reading.{Read, bytes_at, number_at, ◌>>=◌}
+use Rattle.base.specs.writing.Says.{Says}
+use Rattle.base.specs.writing.SaysParts.{Says-both, Says-bytes, Says-just, Says-number, Says-weaker}
 use Rattle.base.specs.Words.{BackToBack, Bytes, Number, Then}
 use Rattle.base.specs.Words.BackToBack.{none, more}
 use Rattle.base_data.specs.Opaque.{opaque_text, same_bytes}
 use Rattle.base_data.specs.Kind.{Kind, bare, no_places}
-use Rattle.base.specs.Written.{Writing, just, both, in_turn}
+use Rattle.base.specs.writing.Written.{Writing, just, both, in_turn}
 
 -- an option's code and bytes
 pub record OptionValue : Type 0 where

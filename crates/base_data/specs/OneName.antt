@@ -1,15 +1,15 @@
 -- Data that is one name: what NS, CNAME, PTR and ANAME share.
 use Rattle.std.specs.Prelude.{◌≡◌, ℕ, true, List, [], ◌∷◌, Ok, Option, Some, None, option_map}
-use Rattle.base.specs.Labels.{AreNameLabels, NameValue, plain_len}
-use Rattle.base.specs.NameText.{name_text}
-use Rattle.base.specs.Names.{name_at}
-use Rattle.base.specs.Reading.{Read, ◌>>=◌}
+use Rattle.base.specs.names.Labels.{AreNameLabels, NameValue, plain_len}
+use Rattle.base.specs.texts.NameText.{name_text}
+use Rattle.base.specs.reading.Names.{name_at}
+use Rattle.base.specs.reading.Reading.{Read, ◌>>=◌}
 use Rattle.base.specs.Words.{NameAt}
 use Rattle.base_data.specs.Fields.{name_item}
 use Rattle.base_data.specs.Kind.{HasText, Kind, bare}
 use Rattle.base_data.specs.NameData.{name_octets}
-use Rattle.base.specs.Says.{Says}
-use Rattle.base.specs.Written.{Writing}
+use Rattle.base.specs.writing.Says.{Says}
+use Rattle.base.specs.writing.Written.{Writing}
 
 -- the data at a place, made of the name that is read there
 abbrev pub one_name_at : {X : Type 0} → (NameValue → X) → List ℕ → ℕ → Read X

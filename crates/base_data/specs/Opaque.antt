@@ -8,8 +8,8 @@ use Rattle.std.specs.Ordering.{nat_cmp}
 use Rattle.std.specs.declared.cmp.Ordering.{Ordering}
 use Rattle.base_data.specs.Kind.{Kind, bare, no_places}
 use Rattle.base.specs.Words.{Bytes}
-use Rattle.base.specs.SaysParts.{Says-bytes}
-use Rattle.base.specs.Written.{just}
+use Rattle.base.specs.writing.SaysParts.{Says-bytes}
+use Rattle.base.specs.writing.Written.{just}
 
 -- a byte in two hexadecimal digits, in lower case
 abbrev pub byte_hex : ℕ → List ℕ

@@ -1,6 +1,6 @@
 -- Record data: how it is read by type and length (RFC 1035, 3.2.1 and 3.3; RFC 3597, 3).
 use Rattle.std.specs.Prelude.{ℕ, Bool, true, false, ◌+◌, ◌==◌, List, [], if◌then◌else◌, Ok, Err}
-use Rattle.base.specs.Reading.{Read}
+use Rattle.base.specs.reading.Reading.{Read}
 use Rattle.base.specs.declared.error.decode_error.DecodeError.TheVariants as faults
 use Rattle.base.specs.declared.record_type.RecordType.{RecordType}
 use Rattle.base_data.specs.InPlace.{data_fault, reason_of}

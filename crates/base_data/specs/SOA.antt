@@ -2,21 +2,21 @@
 use Rattle.std.specs.Prelude.{ℕ, List, Ok, ◌+◌, ◌^◌, ◌<◌, ◌++◌, codes, [], ◌∷◌, ◌≡◌, true, Option, Some, None}
 use Rattle.std.proofs.Common.{arith}
 use Rattle.std.specs.Int.{w32, to_be_bytes}
-use Rattle.base.specs.Names.{name_at}
-use Rattle.base.specs.Reading.{Read, place_after, number_at, ◌>>=◌}
-use Rattle.base.specs.Labels.{AreNameLabels, NameValue, plain_len}
-use Rattle.base.specs.NameText.{name_text}
+use Rattle.base.specs.reading.Names.{name_at}
+use Rattle.base.specs.reading.Reading.{Read, place_after, number_at, ◌>>=◌}
+use Rattle.base.specs.names.Labels.{AreNameLabels, NameValue, plain_len}
+use Rattle.base.specs.texts.NameText.{name_text}
 use Rattle.base.specs.Words.{NameAt, Number, Then}
 use Rattle.std.specs.Fmt.{decimal}
 use Rattle.base_data.specs.declared.rdata.soa.SOA.{SOA}
-use Rattle.base.specs.Ttl.{ttl_of}
+use Rattle.base.specs.texts.Ttl.{ttl_of}
 use Rattle.base_data.specs.Fields.{number_item, name_item, ◌>>?◌}
 use Rattle.base_data.specs.Kind.{HasText, Kind, bare}
-use Rattle.base.specs.SaysName.{Says-name}
-use Rattle.base.specs.Says.{Says}
-use Rattle.base.specs.SaysParts.{Says-both, Says-number32, Says-unowned, Says-weaker}
+use Rattle.base.specs.writing.SaysName.{Says-name}
+use Rattle.base.specs.writing.Says.{Says}
+use Rattle.base.specs.writing.SaysParts.{Says-both, Says-number32, Says-unowned, Says-weaker}
 use Rattle.base_data.specs.NameData.{name_octets}
-use Rattle.base.specs.Written.{both, just, name}
+use Rattle.base.specs.writing.Written.{both, just, name}
 
 -- the data at a place
 unfoldable pub soa_at : List ℕ → ℕ → Read SOA

@@ -2,20 +2,20 @@
 use Rattle.std.specs.Prelude.{ℕ, List, [], ◌∷◌, Ok, ◌+◌, ◌^◌, ◌<◌, ◌++◌, codes, ◌≡◌, true, Option, Some, None}
 use Rattle.std.proofs.Common.{refl, arith}
 use Rattle.std.specs.Int.{w16, to_be_bytes}
-use Rattle.base.specs.Names.{name_at}
-use Rattle.base.specs.Reading.{Read, number_at, ◌>>=◌}
-use Rattle.base.specs.Labels.{AreNameLabels, NameValue, plain_len}
-use Rattle.base.specs.NameText.{name_text}
+use Rattle.base.specs.reading.Names.{name_at}
+use Rattle.base.specs.reading.Reading.{Read, number_at, ◌>>=◌}
+use Rattle.base.specs.names.Labels.{AreNameLabels, NameValue, plain_len}
+use Rattle.base.specs.texts.NameText.{name_text}
 use Rattle.base.specs.Words.{NameAt, Number, Stands, Then}
 use Rattle.std.specs.Fmt.{decimal}
 use Rattle.base_data.specs.declared.rdata.srv.SRV.{SRV}
 use Rattle.base_data.specs.Fields.{number_item, name_item, ◌>>?◌}
 use Rattle.base_data.specs.Kind.{HasText, Kind, bare}
-use Rattle.base.specs.SaysName.{Says-plain_name}
-use Rattle.base.specs.SaysParts.{Says-both, Says-just, Says-weaker, last_stands}
+use Rattle.base.specs.writing.SaysName.{Says-plain_name}
+use Rattle.base.specs.writing.SaysParts.{Says-both, Says-just, Says-weaker, last_stands}
 use Rattle.base.specs.WordLemmas.{first_stands, number16_stands}
 use Rattle.base_data.specs.NameData.{name_octets}
-use Rattle.base.specs.Written.{both, just, plain_name}
+use Rattle.base.specs.writing.Written.{both, just, plain_name}
 
 -- the data at a place
 unfoldable pub srv_at : List ℕ → ℕ → Read SRV

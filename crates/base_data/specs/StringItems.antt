@@ -1,7 +1,8 @@
 -- Character strings from the items of a text (RFC 1035, 5.1): a backslash and three decimal digits up to 255 are the
 -- byte of that number, a backslash and another byte are that byte, and any other byte is itself, a quote too.
 use Rattle.base.specs.declared.limits.TheConstants.{MAX_STRING}
-use Rattle.std.specs.Prelude.{◌≡◌, ◌≢◌, ◌<◌, false, true, ℕ, ◌+◌, ◌-◌, ◌*◌, ◌==◌, ◌&&◌, List, [], ◌∷◌, ◌++◌, length, nat_lt, nat_le, if◌then◌else◌, Option, Some, None}
+use Rattle.std.specs.Prelude.{◌≡◌, ◌≢◌, ◌<◌, false, true, ℕ, ◌+◌, ◌-◌, ◌*◌, ◌==◌, ◌&&◌, List, [], ◌∷◌, ◌++◌, length}
+use Rattle.std.specs.Prelude.{nat_lt, nat_le, if◌then◌else◌, Option, Some, None}
 use Rattle.std.specs.Char.{is_ascii_digit}
 
 -- What of an escape stands before a byte: nothing; the backslash; the backslash and a digit, of this number; the

@@ -1,19 +1,20 @@
 -- Texts: character strings, each a byte for its length and that number of bytes (RFC 1035, 3.3 and 3.3.14).
 use Rattle.base.specs.declared.limits.TheConstants.{MAX_STRING}
-use Rattle.std.specs.Prelude.{◌≡◌, ◌≢◌, ℕ, Bool, All, ◌<◌, ◌≤◌, ◌||◌, ◌==◌, List, [], ◌∷◌, ◌++◌, length, map, nat_lt, if◌then◌else◌, Ok, Err, Option, Some, None}
+use Rattle.std.specs.Prelude.{◌≡◌, ◌≢◌, ℕ, Bool, All, ◌<◌, ◌≤◌, ◌||◌, ◌==◌, List, [], ◌∷◌, ◌++◌, length, map, nat_lt}
+use Rattle.std.specs.Prelude.{if◌then◌else◌, Ok, Err, Option, Some, None}
 use Rattle.std.specs.List.{flat_map, join_with_byte}
 use Rattle.std.specs.Ordering.{on}
 use Rattle.std.specs.Str.{bytes_eq}
-use Rattle.base.specs.Labels.{wire_of, labels_of}
-use Rattle.base.specs.NameText.{decimal_text}
-use Rattle.base.specs.Reading.{Read, bytes_at, ◌>>=◌}
+use Rattle.base.specs.names.Labels.{wire_of, labels_of}
+use Rattle.base.specs.texts.NameText.{decimal_text}
+use Rattle.base.specs.reading.Reading.{Read, bytes_at, ◌>>=◌}
 use Rattle.base.specs.declared.error.decode_error.DecodeError.TheVariants as faults
 use Rattle.base_data.specs.Opaque.{same_bytes}
 use Rattle.base_data.specs.Kind.{Kind, no_places}
 use Rattle.base_data.specs.StringItems.{string_items}
 use Rattle.base.specs.Words.{Bytes}
-use Rattle.base.specs.SaysParts.{Says-bytes}
-use Rattle.base.specs.Written.{just}
+use Rattle.base.specs.writing.SaysParts.{Says-bytes}
+use Rattle.base.specs.writing.Written.{just}
 
 -- each string has up to 255 bytes
 abbrev pub AreShort : List (List ℕ) → Type 0

@@ -2,7 +2,7 @@
 //! stands here.
 
 ghost use Rattle.std.specs.Prelude.{◌≡◌, ◌<◌, ◌≤◌, [], Some, length, true, option_copied, slice_get};
-ghost use Rattle.base.specs.Tracks.{Tracks};
+ghost use Rattle.base.specs.reading.Tracks.{Tracks};
 ghost use Rattle.base_data.specs.InPlace.{ReadsInto};
 ghost use Rattle.base_data.specs.Kinds.{DataWord, KeptData, canonical_data, data_names, data_places, data_says, data_text, data_written, kind_at, kind_rank, plain_data, type_of_data};
 ghost use Rattle.base_data.specs.RData.{is_empty_data};
@@ -278,7 +278,7 @@ impl BinEncodable for RData {
     /// # Errors
     ///
     /// `MaxBufferSizeExceeded` where a byte would pass the limit; `Memory` if memory runs out.
-    #[tactic(auto, using(base::proofs::LawLemmas::writing))]
+    #[tactic(auto, using(base::proofs::writing::LawLemmas::writing))]
     fn emit(&self, encoder: &mut BinEncoder<'_>) -> Result<(), ProtoError> {
         match self {
             RData::A(rdata) => rdata.emit(encoder),

@@ -4,7 +4,7 @@ use Rattle.std.specs.BTreeMap as tree
 use Rattle.std.specs.BTreeMap.{BTreeMap}
 use Rattle.std.specs.List.{list_any}
 use Rattle.std.specs.Prelude.{if◌then◌else◌}
-use Rattle.base.specs.Labels.{NameValue}
+use Rattle.base.specs.names.Labels.{NameValue}
 use Rattle.base.specs.RrKey.{key_cmp}
 use Rattle.base.specs.declared.dns_class.DNSClass.TheVariants as classes
 use Rattle.base.specs.declared.rr_key.RrKey.{RrKey}
@@ -37,12 +37,15 @@ class_refused_text m zone e refused =
     first_refused (by_number (lines_after m zone)) (told (leaves_anames (m, zone))) (zone_number e)
     (number_told e (lines_after m zone) (class_refused m zone e refused))
 
-module _ (name : NameValue) (m : Sections) (old new : BTreeMap RrKey SetValue) (code : ResponseCode) (ordered : tree.IsOrdered key_cmp new)
+module _ (name : NameValue) (m : Sections) (old new : BTreeMap RrKey SetValue) (code : ResponseCode)
+    (ordered : tree.IsOrdered key_cmp new)
     (after : applying.IsApplied name classes.IN m old code new) (all : are_sets_in old.entries ≡ true) where
   -- and else the lines of the map are answered, unless it has two ANAME records of an owner
-  pub text_left : (crowded : Bool) → crowded ≡ list_any (λ (e : RrKey × SetValue). are_anames e.0 e.1.records) new.entries
+  pub text_left : (crowded : Bool) → crowded ≡ list_any
+      (λ (e : RrKey × SetValue). are_anames e.0 e.1.records) new.entries
       → text_after (m, (name, old.entries)) ≡ told crowded (update_lines code (name, new.entries))
   text_left crowded is =
       ap (λ (asked : Asked (List ℕ)). asked >>= told (leaves_anames (m, (name, old.entries))))
       (ap by_number (lines_answered name m old new code ordered after _ all refl))
-      ∙ ap (λ (b : Bool). told b (update_lines code (name, new.entries))) (any_left name m old new code ordered after are_anames ∙ sym is)
+      ∙ ap (λ (b : Bool). told b (update_lines code (name, new.entries)))
+      (any_left name m old new code ordered after are_anames ∙ sym is)

@@ -5,3 +5,6 @@ mod SentLemmas
 mod SoundLemmas
 mod TextLemmas
 mod WalkLemmas
+mod BoxValues
+mod HandleLemmas
+mod HandleValues

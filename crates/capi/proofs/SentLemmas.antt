@@ -1,13 +1,14 @@
 -- What is written of a message, as TC of its header says: all of it, or a part.
-use Rattle.std.proofs.Common.{Bool, Err, List, Ok, Result, [], ap, false, inl, inr, refl, sym, true, ℕ, ◌∷◌, ◌≡◌, ◌⊎◌, ◌∙◌}
+use Rattle.std.proofs.Common.{Bool, Err, List, Ok, Result, [], ap, false, inl, inr, refl, sym, true, ℕ, ◌∷◌, ◌≡◌, ◌⊎◌}
+use Rattle.std.proofs.Common.{◌∙◌}
 use Rattle.std.specs.Prelude.{IfOk, Option, None, Some, Vec, ℤ, if◌then◌else◌, ◌||◌}
 use Rattle.std.specs.declared.alloc.Global.{Global}
 use Rattle.base.specs.ProtoError.{proto_number}
-use Rattle.base.specs.Reading.{Read}
+use Rattle.base.specs.reading.Reading.{Read}
 use Rattle.base.specs.declared.error.proto_error.ProtoError.{ProtoError}
 use Rattle.base.specs.declared.error.proto_error.ProtoError.TheVariants as refusals
 use Rattle.base.specs.declared.record_type.RecordType.{RecordType}
-use Rattle.op.proofs.HeaderReading.{reads_word}
+use Rattle.op.proofs.reading.HeaderReading.{reads_word}
 use Rattle.op.specs.Cut.{IsWritten, any_lost}
 use Rattle.op.specs.Header.{IsHeaderAt, header_at}
 use Rattle.op.specs.Message.{MessageValue, high_code}
@@ -30,8 +31,10 @@ unsent m e (inl memory) = inr (ap (λ x. Err (proto_number x)) memory)
 unsent m e (inr is) = inl (unwritten refl (ap written is))
 
 -- what comes of an update is answered by what is left of it
-pub update_answered : (id : ℕ) (use_edns : Bool) (origin : List ℕ) (change : Change) (made : Result (Vec ℕ Global) Refusal) (old new : List ℕ) (needed : ℕ) (result : ℤ)
-    → MakesBy (IsSent (update_asked id use_edns origin change)) made → IfOk made (λ bytes. IsUpdate origin change bytes.items)
+pub update_answered : (id : ℕ) (use_edns : Bool) (origin : List ℕ) (change : Change)
+    (made : Result (Vec ℕ Global) Refusal) (old new : List ℕ) (needed : ℕ) (result : ℤ)
+    → MakesBy (IsSent (update_asked id use_edns origin change)) made
+    → IfOk made (λ bytes. IsUpdate origin change bytes.items)
     → IsLeft (bytes_made made) old new needed result → IsUpdateAnswered id use_edns origin change old new needed result
 update_answered id use_edns origin change made old new needed result comes means left = record {
   sent = answered_by (IsSent (update_asked id use_edns origin change)) made old new needed result comes left;
@@ -71,10 +74,13 @@ one_header B h other stands again =
       found (Ok r) = r.0
       found (Err e) = h
 
-module _ (m : MessageValue) (B : List ℕ) (exact : message_answer 65535 m ≡ Ok B) (w : IsWritten m 65535 B) (h : Header) (stands : IsHeaderAt B 0 h) where
+module _ (m : MessageValue) (B : List ℕ) (exact : message_answer 65535 m ≡ Ok B) (w : IsWritten m 65535 B) (h : Header)
+    (stands : IsHeaderAt B 0 h) where
   flag : w.message.metadata.truncation ≡ h.metadata.truncation
-  flag = ap (λ (n : MessageValue). n.metadata.truncation) w.is_cut.word.message ∙ high_flag _ w.is_cut.word.header.metadata
-      ∙ ap (λ (x : Header). x.metadata.truncation) (one_header B w.is_cut.word.header h w.is_cut.word.header_stands stands)
+  flag = ap (λ (n : MessageValue). n.metadata.truncation) w.is_cut.word.message
+      ∙ high_flag _ w.is_cut.word.header.metadata
+      ∙ ap (λ (x : Header). x.metadata.truncation)
+      (one_header B w.is_cut.word.header h w.is_cut.word.header_stands stands)
 
   pub all_written : h.metadata.truncation ≡ false → IsWhole m B
   all_written clear =

@@ -17,11 +17,14 @@ in_is : (c : DNSClass) → is_in c ≡ true → c ≡ classes.IN
 in_is classes.IN h = refl
 in_is _ h = cc
 
-each_in : (c : DNSClass) → c ≡ classes.IN → (rs : List (Record RData)) → list_all (λ (r : Record RData). is_in r.dns_class) rs ≡ true
+each_in : (c : DNSClass) → c ≡ classes.IN → (rs : List (Record RData))
+    → list_all (λ (r : Record RData). is_in r.dns_class) rs ≡ true
     → AllByRecursion (λ (r : Record RData). r.dns_class ≡ c) rs
 each_in c is [] all = tt
-each_in c is (r ∷ rs) all =
-    (in_is r.dns_class (first_so (is_in r.dns_class) _ all) ∙ sym is, each_in c is rs (second_so (is_in r.dns_class) _ all))
+each_in c is (r ∷ rs) all = (
+  in_is r.dns_class (first_so (is_in r.dns_class) _ all) ∙ sym is,
+  each_in c is rs (second_so (is_in r.dns_class) _ all),
+)
 
 keyed_is_sound : (k : RrKey) (s : SetValue) → IsKeyed k s → is_set_in s ≡ true → IsSound s
 keyed_is_sound k s keyed all =
@@ -34,7 +37,8 @@ keyed_is_sound k s keyed all =
       distinct = keyed.tidy.distinct;
     }
 
-pub only_is_sound : (es : ZoneSets) (s : SetValue) → AreKeyed es → are_sets_in es ≡ true → only_set es ≡ Ok s → IsSound s
+pub only_is_sound : (es : ZoneSets) (s : SetValue) → AreKeyed es → are_sets_in es ≡ true → only_set es ≡ Ok s
+    → IsSound s
 only_is_sound [] s keyed all is = absurd cc
 only_is_sound (e ∷ []) s keyed all is =
     let same : e.1 ≡ s = cc in

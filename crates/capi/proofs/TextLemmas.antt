@@ -4,7 +4,7 @@ use Rattle.std.proofs.lemmas.Bool.{cond-false, cond-true}
 use Rattle.std.proofs.lemmas.Str.{IsUtf8-from_is_utf8, is_utf8-from_IsUtf8}
 use Rattle.std.specs.Prelude.{◌==◌}
 use Rattle.std.specs.Str.{IsUtf8, is_utf8}
-use Rattle.base.specs.Labels.{NameValue}
+use Rattle.base.specs.names.Labels.{NameValue}
 use Rattle.capi.specs.Answer.{Asked, ◌>>=◌}
 use Rattle.capi.specs.ZoneText.{characters, name_of_text, zone_name_of}
 
@@ -27,10 +27,12 @@ no_zone_named text is = cond-true _ _ _ (sym is)
 abbrev pub as_zone : Asked NameValue → Asked NameValue
 as_zone asked = ◌>>=◌ {A = NameValue} {B = NameValue} asked (λ name. Ok (record name { absolute = true }))
 
-pub zone_named : (text : List ℕ) (made : Asked NameValue) → false ≡ (length text == 0) → name_of_text text ≡ made → zone_name_of text ≡ as_zone made
+pub zone_named : (text : List ℕ) (made : Asked NameValue) → false ≡ (length text == 0) → name_of_text text ≡ made
+    → zone_name_of text ≡ as_zone made
 zone_named text made some is = cond-false _ _ _ (sym some) ∙ ap as_zone is
 
-pub zone_unnamed : (text : List ℕ) (number : ℕ) → false ≡ (length text == 0) → (number ≡ 3) ⊎ (name_of_text text ≡ Err number)
+pub zone_unnamed : (text : List ℕ) (number : ℕ) → false ≡ (length text == 0)
+    → (number ≡ 3) ⊎ (name_of_text text ≡ Err number)
     → (number ≡ 3) ⊎ (zone_name_of text ≡ Err number)
 zone_unnamed text number some (inl memory) = inl memory
 zone_unnamed text number some (inr is) = inr (zone_named text (Err number) some is)

@@ -8,13 +8,13 @@ use Rattle.std.proofs.lemmas.Bool.{le-ltb}
 use Rattle.std.proofs.lemmas.List.{append-nil, drop_at, drop-drop, drop_all, length-take-le, set_at, take_at}
 use Rattle.std.proofs.lemmas.List.{take-append-drop}
 use Rattle.std.specs.Prelude.{nat_lt}
-use Rattle.base.specs.Many.{many_at}
-use Rattle.base.specs.Names.{name_at}
-use Rattle.base.specs.Reading.{Fails, bytes_at}
-use Rattle.base.specs.Reader.{Reader, begun}
+use Rattle.base.specs.reading.Many.{many_at}
+use Rattle.base.specs.reading.Names.{name_at}
+use Rattle.base.specs.reading.Reading.{Fails, bytes_at}
+use Rattle.base.specs.reading.Reader.{Reader, begun}
 use Rattle.base.specs.declared.error.decode_error.DecodeError.{DecodeError}
-use Rattle.base.proofs.ManyLemmas.{many-end, many-fault, many-step, with_front}
-use Rattle.base.proofs.ReadLemmas.{Fails-through}
+use Rattle.base.proofs.reading.ManyLemmas.{many-end, many-fault, many-step, with_front}
+use Rattle.base.proofs.reading.ReadLemmas.{Fails-through}
 use Rattle.base_data.proofs.Tells.{same_ok}
 use Rattle.base_data.specs.declared.rdata.RData.{RData}
 use Rattle.rr.specs.Record.{record_at}

@@ -3,7 +3,7 @@ use Rattle.std.specs.Prelude.{◌≡◌, ◌⊎◌, ◌<◌, ◌≤◌, ◌++◌
 use Rattle.std.specs.declared.alloc.Global.{Global}
 use Rattle.base.specs.DecodeError.{decode_number}
 use Rattle.base.specs.ProtoError.{proto_number}
-use Rattle.base.specs.Reading.{Read}
+use Rattle.base.specs.reading.Reading.{Read}
 use Rattle.base.specs.declared.error.proto_error.ProtoError.{ProtoError}
 use Rattle.capi.specs.declared.refusal.Refusal.{Refusal}
 

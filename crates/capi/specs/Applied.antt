@@ -2,7 +2,7 @@
 use Rattle.std.specs.FinMap as fin
 use Rattle.std.specs.List.{list_any}
 use Rattle.std.specs.Prelude.{Bool, Err, List, Ok, Some, false, if◌then◌else◌, length, nat_le, not, true, ℕ, ◌&&◌}
-use Rattle.base.specs.Labels.{NameValue}
+use Rattle.base.specs.names.Labels.{NameValue}
 use Rattle.base.specs.declared.record_type.RecordType.{RecordType}
 use Rattle.base.specs.declared.record_type.RecordType.TheVariants as types
 use Rattle.base.specs.declared.rr_key.RrKey.{RrKey}
@@ -16,7 +16,7 @@ use Rattle.txt.specs.ZoneSets.{ZoneSets}
 use Rattle.capi.specs.Answer.{Asked, ◌>>=◌}
 use Rattle.capi.specs.Message.{message_of}
 use Rattle.capi.specs.Refusals.{two_anames}
-use Rattle.capi.specs.ZoneText.{IsZoneText, zone_name_of, zone_under}
+use Rattle.capi.specs.ZoneText.{IsZoneText, zone_asked}
 
 -- an update, and the zone of an origin with the sets of a text
 abbrev pub UpdateOfZone : Type 0
@@ -25,8 +25,7 @@ UpdateOfZone = Sections × (NameValue × ZoneSets)
 -- the update that the bytes begin with, and that zone
 abbrev pub update_and_zone : List ℕ → List ℕ → List ℕ → Asked UpdateOfZone
 update_and_zone update origin text =
-    message_of update >>= λ m. zone_name_of origin >>= λ zone.
-    zone_under (Some zone) text >>= λ parsed. Ok (sections_of m, (zone, parsed.1))
+    message_of update >>= λ m. zone_asked origin text >>= λ zone. Ok (sections_of m, zone)
 
 -- the type ANAME, of which the text of a zone can say one record of an owner
 abbrev pub is_aname : RecordType → Bool

@@ -7,3 +7,5 @@ pub mod Update
 pub mod Walk
 pub mod WalkWhole
 pub mod ZoneText
+pub mod Held
+pub mod ZoneHandle

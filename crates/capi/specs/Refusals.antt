@@ -40,3 +40,7 @@ too_long = 32
 -- an owner is left with two ANAME records, which the text of a zone can't say
 abbrev pub two_anames : ℕ
 two_anames = 33
+
+-- the handle is closed
+abbrev pub closed : ℕ
+closed = 34

@@ -1,9 +1,10 @@
 -- What the builders of updates are asked for, as texts, and what is sent.
 use Rattle.base.specs.declared.limits.TheConstants.{MAX_MESSAGE}
-use Rattle.std.specs.Prelude.{ℕ, ℤ, ◌<◌, ◌≤◌, Bool, take, List, [], ◌∷◌, ◌≡◌, if◌then◌else◌, length, Option, Some, None, Ok, Err, slice_get, true}
-use Rattle.base.specs.Labels.{NameValue}
-use Rattle.base.specs.NameOf.{name_of}
-use Rattle.base.specs.NameOrder.{is_zone_of, same_name}
+use Rattle.std.specs.Prelude.{ℕ, ℤ, ◌<◌, ◌≤◌, Bool, take, List, [], ◌∷◌, ◌≡◌, if◌then◌else◌, length, Option, Some, None}
+use Rattle.std.specs.Prelude.{Ok, Err, slice_get, true}
+use Rattle.base.specs.names.Labels.{NameValue}
+use Rattle.base.specs.texts.NameOf.{name_of}
+use Rattle.base.specs.names.NameOrder.{is_zone_of, same_name}
 use Rattle.base.specs.RecordType.{type_of}
 use Rattle.base.specs.declared.dns_class.DNSClass.TheVariants as classes
 use Rattle.base.specs.declared.record_type.RecordType.{RecordType}
@@ -14,7 +15,8 @@ use Rattle.op.specs.MessageWritten.{message_answer}
 use Rattle.op_use.specs.Server.{Sections}
 use Rattle.op_use.specs.SoundSet.{IsSound, is_supported_type}
 use Rattle.op_use.specs.UpdateMeaning.{AppendsToSet, CreatesSet, DeletesData, DeletesName, DeletesSet, SwapsSets}
-use Rattle.op_use.specs.UpdateMessage.{append, compare_and_swap, create, delete_all, delete_by_rdata, delete_rrset, empty_record, transfer_message, update_message}
+use Rattle.op_use.specs.UpdateMessage.{append, compare_and_swap, create, delete_all, delete_by_rdata, delete_rrset}
+use Rattle.op_use.specs.UpdateMessage.{empty_record, transfer_message, update_message}
 use Rattle.base_data.specs.declared.rdata.RData.{RData}
 use Rattle.base_data.specs.declared.rdata.RData.TheVariants as kinds
 use Rattle.base_data.specs.declared.rdata.soa.SOA.{SOA}

@@ -2,10 +2,10 @@
 use Rattle.std.specs.Int.{w16, w32}
 use Rattle.std.specs.Prelude.{◌≡◌, ◌⊎◌, ℕ, ℤ, List, neg_ℤ, pos, Result, Ok, Err}
 use Rattle.base.specs.DecodeError.{decode_number}
-use Rattle.base.specs.Labels.{NameValue}
-use Rattle.base.specs.NameText.{name_text}
-use Rattle.base.specs.Names.{name_at}
-use Rattle.base.specs.Reading.{Fails, ◌>>=◌, bytes_at, number_at}
+use Rattle.base.specs.names.Labels.{NameValue}
+use Rattle.base.specs.texts.NameText.{name_text}
+use Rattle.base.specs.reading.Names.{name_at}
+use Rattle.base.specs.reading.Reading.{Fails, ◌>>=◌, bytes_at, number_at}
 use Rattle.base.specs.declared.error.decode_error.DecodeError.{DecodeError}
 use Rattle.base_data.specs.Kinds.{data_text}
 use Rattle.rr.specs.Record.{record_at}

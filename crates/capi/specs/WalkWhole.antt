@@ -1,9 +1,9 @@
 -- What walking a whole message is asked for: the questions and the records that its header counts, each at the place
 -- after the one before it.
 use Rattle.std.specs.Prelude.{◌≡◌, ◌⊎◌, ◌+◌, ◌++◌, ◌∷◌, ◌<◌, ◌≤◌, ℕ, ℤ, List, [], drop, length, neg_ℤ, pos, Ok, Err}
-use Rattle.base.specs.Labels.{NameValue, wire_of}
-use Rattle.base.specs.Many.{many_at}
-use Rattle.base.specs.Reading.{Read, ◌>>=◌}
+use Rattle.base.specs.names.Labels.{NameValue, wire_of}
+use Rattle.base.specs.reading.Many.{many_at}
+use Rattle.base.specs.reading.Reading.{Read, ◌>>=◌}
 use Rattle.op.specs.Header.{header_at}
 use Rattle.capi.specs.Answer.{Asked}
 use Rattle.capi.specs.Walk.{name_found, query_found, record_found}

@@ -1,10 +1,11 @@
 -- What calls on zone text are asked for.
 use Rattle.std.specs.List.{AllByRecursion}
 use Rattle.std.specs.Map.{values_of}
-use Rattle.std.specs.Prelude.{All, ℕ, List, [], ◌∷◌, ◌==◌, ◌≡◌, if◌then◌else◌, length, Option, Some, None, Ok, Err, true}
+use Rattle.std.specs.Prelude.{All, ℕ, List, [], ◌∷◌, ◌==◌, ◌≡◌, if◌then◌else◌, length, Option, Some, None, Ok, Err}
+use Rattle.std.specs.Prelude.{true}
 use Rattle.std.specs.Str.{is_utf8}
-use Rattle.base.specs.Labels.{NameValue}
-use Rattle.base.specs.NameOf.{name_of}
+use Rattle.base.specs.names.Labels.{NameValue}
+use Rattle.base.specs.texts.NameOf.{name_of}
 use Rattle.rr.specs.Record.{FitsRecord}
 use Rattle.rr.specs.RecordSet.{SetValue}
 use Rattle.txt.specs.ZoneSets.{ZoneSets}
@@ -39,6 +40,11 @@ zone_under origin text = by_number (generic_zone_of_bytes origin text)
 -- the zone of a text under the origin that a text names, if it does
 abbrev pub zone_of_text : List ℕ → List ℕ → Asked (NameValue × ZoneSets)
 zone_of_text origin text = origin_of_text origin >>= λ under. zone_under under text
+
+-- the zone of the origin that a text names, with the sets of another text
+abbrev pub zone_asked : List ℕ → List ℕ → Asked (NameValue × ZoneSets)
+zone_asked origin text =
+    zone_name_of origin >>= λ zone. zone_under (Some zone) text >>= λ parsed. Ok (zone, parsed.1)
 
 -- Each record of the sets can stand on the wire, so each name of its data is absolute (RFC 1035, 3.1 and 3.2.1).
 abbrev pub FitsWire : ZoneSets → Type 0

@@ -16,7 +16,7 @@ use crate::answer::give;
 use crate::fits::fits_wire;
 use crate::message::message_of;
 use crate::refusal::Refusal;
-use crate::zone::{zone_name_of, zone_under};
+use crate::zone::zone_asked;
 use base::{Name, RecordType, RrKey};
 use op::Message;
 use parsed_zone::{sets_after, update_lines};
@@ -65,7 +65,7 @@ fn apply(alloc: Global, update: &[u8], origin: &[u8], text: &[u8]) -> Result<Vec
 }
 
 /// Whether an owner has two ANAME records, or more.
-fn has_two_anames(sets: &BTreeMap<RrKey, RecordSet>) -> bool
+pub fn has_two_anames(sets: &BTreeMap<RrKey, RecordSet>) -> bool
     ensures found { result ≡ list_any
         (λ (e : Key × SetValue). are_anames e.0 e.1.records) sets.now.entries }
     // The sets stand in the order of their keys, each once.
@@ -92,7 +92,6 @@ fn update_and_zone(
     ensures kept { IfOk result (λ x. AreKeyed x.2.entries) }
 {
     let message = message_of(alloc, update)?;
-    let zone = zone_name_of(alloc, origin)?;
-    let (_origin, sets) = zone_under(alloc, Some(zone.clone()?), text)?;
+    let (zone, sets) = zone_asked(alloc, origin, text)?;
     Ok((message, zone, sets))
 }

@@ -15,3 +15,4 @@ mod tests;
 mod update;
 mod walk;
 mod zone;
+mod zone_handle;

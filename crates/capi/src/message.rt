@@ -1,6 +1,6 @@
 //! Messages (RFC 1035, 4.1).
 
-ghost use Rattle.std.specs.Prelude.{◌≡◌, ◌⊎◌, ◌<◌, ◌≤◌, ◌^◌, Err, IfErr, IfOk, Ok, length, take};
+ghost use Rattle.std.specs.Prelude.{◌<◌, ◌≤◌, ◌^◌, IfOk, Ok, length, take};
 ghost use Rattle.op.specs.Message.{message_value};
 ghost use Rattle.capi.specs.Answer.{IsAnswered, IsNumbered, Makes};
 ghost use Rattle.capi.specs.Message.{IsCutOf, cut_of, end_of, message_of, text_of};

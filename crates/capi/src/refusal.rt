@@ -47,6 +47,9 @@ impl Refusal {
 
     /// An owner is left with two ANAME records, which the text of a zone can't say.
     pub const TWO_ANAMES: Refusal = Refusal { number: 33 };
+
+    /// The handle is closed.
+    pub const CLOSED: Refusal = Refusal { number: 34 };
 }
 
 impl From<AllocError> for Refusal {

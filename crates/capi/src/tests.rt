@@ -1,6 +1,7 @@
 //! Each export that reads messages, over the worked messages (bindings/worked/messages) and what RFC 1035 says of them.
 
 mod generic;
+mod held;
 mod long_names;
 mod updates;
 

@@ -1,9 +1,9 @@
 //! Zone text (RFC 1035, 5.1).
 
-ghost use Rattle.std.specs.Prelude.{◌≡◌, IfOk};
+ghost use Rattle.std.specs.Prelude.{IfOk};
 ghost use Rattle.txt.specs.ZoneSets.{AreKeyed};
 ghost use Rattle.capi.specs.Answer.{IsAnsweredBy, Makes, MakesBy};
-ghost use Rattle.capi.specs.ZoneText.{IsCanonical, characters, name_of_text, origin_of_text, zone_name_of, zone_of_text, zone_under};
+ghost use Rattle.capi.specs.ZoneText.{IsCanonical, characters, name_of_text, origin_of_text, zone_name_of, zone_asked, zone_of_text, zone_under};
 
 use crate::answer::give;
 use crate::fits::fits_wire;
@@ -119,6 +119,25 @@ pub fn zone_name_of(alloc: Global, text: &[u8]) -> Result<Name, Refusal>
     let mut name = name_of(alloc, text)?;
     name.set_fqdn(true);
     Ok(name)
+}
+
+/// The zone of the origin that a text names, with the sets of another text: an `$ORIGIN` of that is of names alone.
+///
+/// # Errors
+///
+/// Those of `zone_name_of`, and then those of `zone_under`.
+pub fn zone_asked(
+    alloc: Global,
+    origin: &[u8],
+    text: &[u8],
+) -> Result<(Name, BTreeMap<RrKey, RecordSet>), Refusal>
+    ensures made { Makes (λ r. (r.0, r.1.entries)) (zone_asked origin.now text.now) result }
+    // Each set stands under the key of its owner and type, has a record and is tidy.
+    ensures kept { IfOk result (λ r. AreKeyed r.1.entries) }
+{
+    let zone = zone_name_of(alloc, origin)?;
+    let (_origin, sets) = zone_under(alloc, Some(zone.clone()?), text)?;
+    Ok((zone, sets))
 }
 
 /// The characters of a text.

@@ -7,17 +7,20 @@ use Rattle.op.specs.Cut.{IsWritten}
 use Rattle.op.specs.Message.{IsMessageAt, MessageValue}
 use Rattle.op.specs.MessageWritten.{message_answer}
 use Rattle.op.proofs.AnswerLaws.{too_small}
-use Rattle.op.proofs.MessageStands.{message_again}
+use Rattle.op.proofs.reading.MessageStands.{message_again}
 use Rattle.commands.specs.Answer.{Answer, done, refused}
 use Rattle.commands.specs.CutCommand.{CutsBuffer, CutsMessage, CutsRead, IsCutAnswer, hex_line}
 use Rattle.commands.specs.HexInput.{bytes_of}
 
-module _ (limit : ℕ) (input bytes : List ℕ) (m : MessageValue) (e : ℕ) (spelled : bytes_of input ≡ Ok bytes) (stands : IsMessageAt bytes 0 m e) where
+module _ (limit : ℕ) (input bytes : List ℕ) (m : MessageValue) (e : ℕ) (spelled : bytes_of input ≡ Ok bytes)
+    (stands : IsMessageAt bytes 0 m e) where
   answers : (answer : Answer) → CutsMessage m limit answer → IsCutAnswer limit input answer
-  answers answer cuts = subst (λ r. CutsBuffer limit r answer) (sym spelled) (subst (λ r. CutsRead limit r answer) (sym (message_again bytes 0 m e stands)) cuts)
+  answers answer cuts = subst (λ r. CutsBuffer limit r answer) (sym spelled)
+      (subst (λ r. CutsRead limit r answer) (sym (message_again bytes 0 m e stands)) cuts)
 
   -- the bytes of a cut are printed
-  pub cut_answers : (B line : List ℕ) → IsWritten m limit B → message_answer limit m ≡ Ok B → line ≡ hex_line B → IsCutAnswer limit input (done line)
+  pub cut_answers : (B line : List ℕ) → IsWritten m limit B → message_answer limit m ≡ Ok B → line ≡ hex_line B
+      → IsCutAnswer limit input (done line)
   cut_answers B line written exact is = answers (done line) (inl (B, (written, exact), ap done is))
 
   -- and else the number of the refusal

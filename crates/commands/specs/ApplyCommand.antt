@@ -2,8 +2,8 @@
 use Rattle.std.specs.Prelude.{Err, List, Ok, Option, Result, [], ℕ, ◌∷◌}
 use Rattle.hex.specs.declared.error.FromHexError.{FromHexError}
 use Rattle.base.specs.DecodeError.{decode_number}
-use Rattle.base.specs.Labels.{NameValue}
-use Rattle.base.specs.Reading.{Read}
+use Rattle.base.specs.names.Labels.{NameValue}
+use Rattle.base.specs.reading.Reading.{Read}
 use Rattle.op.specs.Message.{MessageValue, message_at}
 use Rattle.op_use.specs.Server.{sections_of}
 use Rattle.txt.specs.ZoneSets.{ZoneSets}

@@ -1,5 +1,6 @@
 -- The commands, as the words after the program's name name them, and what each answers.
-use Rattle.std.specs.Prelude.{◌≡◌, ◌⊎◌, ℕ, ⊤, true, IfSome, List, [], ◌∷◌, codes, if◌then◌else◌, Option, Some, None, Ok, Err, Result, String}
+use Rattle.std.specs.Prelude.{◌≡◌, ◌⊎◌, ℕ, ⊤, true, IfSome, List, [], ◌∷◌, codes, if◌then◌else◌, Option, Some, None, Ok}
+use Rattle.std.specs.Prelude.{Err, Result, String}
 use Rattle.std.specs.Option.{option_map}
 use Rattle.std.specs.declared.alloc.Global.{Global}
 use Rattle.std.specs.String.{string_bytes}

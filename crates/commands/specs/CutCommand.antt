@@ -3,7 +3,7 @@ use Rattle.std.specs.Prelude.{◌≡◌, ◌⊎◌, ℕ, List, [], ◌∷◌, �
 use Rattle.std.specs.declared.alloc.Global.{Global}
 use Rattle.hex.specs.Hex.{encode_lower}
 use Rattle.hex.specs.declared.error.FromHexError.{FromHexError}
-use Rattle.base.specs.Reading.{Read}
+use Rattle.base.specs.reading.Reading.{Read}
 use Rattle.base.specs.DecodeError.{decode_number}
 use Rattle.base.specs.ProtoError.{proto_number}
 use Rattle.base.specs.declared.error.proto_error.ProtoError.{ProtoError}

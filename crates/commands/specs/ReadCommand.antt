@@ -1,7 +1,7 @@
 -- What the command `read` prints.
 use Rattle.std.specs.Prelude.{ℕ, List, Result, Ok, Err}
 use Rattle.hex.specs.declared.error.FromHexError.{FromHexError}
-use Rattle.base.specs.Reading.{Read}
+use Rattle.base.specs.reading.Reading.{Read}
 use Rattle.base.specs.DecodeError.{decode_number}
 use Rattle.op.specs.Message.{MessageValue, message_at}
 use Rattle.op.specs.MessageText.{message_text}

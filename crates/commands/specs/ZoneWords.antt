@@ -1,10 +1,11 @@
 -- The words of the commands with an origin, `zone` and `apply`.
 use Rattle.std.specs.Option.{option_map}
-use Rattle.std.specs.Prelude.{ℕ, Bool, false, true, not, ◌&&◌, List, [], ◌∷◌, codes, if◌then◌else◌, Option, Some, None, Result, Ok, Err}
+use Rattle.std.specs.Prelude.{ℕ, Bool, false, true, not, ◌&&◌, List, [], ◌∷◌, codes, if◌then◌else◌, Option, Some, None}
+use Rattle.std.specs.Prelude.{Result, Ok, Err}
 use Rattle.std.specs.Str.{bytes_eq}
-use Rattle.base.specs.Labels.{NameValue}
-use Rattle.base.specs.NameOf.{name_of}
-use Rattle.base.specs.TextFaults.{Fault}
+use Rattle.base.specs.names.Labels.{NameValue}
+use Rattle.base.specs.texts.NameOf.{name_of}
+use Rattle.base.specs.texts.TextFaults.{Fault}
 use Rattle.commands.specs.ZoneCommand.{are_texts}
 use Rattle.commands.specs.declared.command.Command.{Command}
 use Rattle.commands.specs.declared.command.Command.TheVariants as command

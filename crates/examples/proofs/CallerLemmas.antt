@@ -1,21 +1,22 @@
 -- What the callers say of what they send, keep and change.
-use Rattle.std.proofs.Common.{Err, List, None, Ok, Option, Result, Some, [], ap, lit<, lit≤, false, refl, subst, sym, true, ℕ, ◌∙◌, ◌∷◌, ◌≡◌, ◌⊎◌, inl, inr}
+use Rattle.std.proofs.Common.{Err, List, None, Ok, Option, Result, Some, [], ap, lit<, lit≤, false, refl, subst, sym}
+use Rattle.std.proofs.Common.{true, ℕ, ◌∙◌, ◌∷◌, ◌≡◌, ◌⊎◌, inl, inr}
 use Rattle.std.proofs.lemmas.Bool.{or_parts}
 use Rattle.std.proofs.lemmas.List.Elements.{All-cons, All-nil}
 use Rattle.std.specs.BTreeMap.{BTreeMap}
 use Rattle.std.specs.Prelude.{All, String, map}
 use Rattle.std.specs.String.{string_bytes}
 use Rattle.std.specs.declared.alloc.Global.{Global}
-use Rattle.base.specs.Labels.{NameValue}
-use Rattle.base.specs.NameOrder.{folded, is_zone_of}
-use Rattle.base.specs.NameOrderLaws.{same_by-equiv}
+use Rattle.base.specs.names.Labels.{NameValue}
+use Rattle.base.specs.names.NameOrder.{folded, is_zone_of}
+use Rattle.base.specs.names.NameOrderLaws.{same_by-equiv}
 use Rattle.base.specs.declared.dns_class.DNSClass.TheVariants as classes
 use Rattle.base.specs.declared.error.proto_error.ProtoError.{ProtoError}
 use Rattle.base.specs.declared.error.proto_error.ProtoError.TheVariants as refusals
 use Rattle.base.specs.declared.rr_key.RrKey.{RrKey}
 use Rattle.base_data.specs.declared.rdata.RData.{RData}
 use Rattle.op.proofs.AnswerLaws.{too_small}
-use Rattle.op.proofs.MessageStands.{one_message}
+use Rattle.op.proofs.reading.MessageStands.{one_message}
 use Rattle.op.specs.Edns.{new_edns}
 use Rattle.op.specs.Cut.{IsCut, IsUncut, IsWritten, any_lost}
 use Rattle.op.specs.Fits.{Fits, FitsEdns, FitsPlain, as_list}
@@ -32,7 +33,8 @@ use Rattle.rr.specs.RecordSet.{SetValue}
 use Rattle.rr.specs.declared.record.Record.{Record}
 use Rattle.txt.specs.Parser.{ParserValue, named_texts, text_among}
 use Rattle.txt.specs.Zone.{Texts, no_texts, zone_of}
-use Rattle.examples.specs.Callers.{IsQueryAnswered, IsCreated, IsNotReceived, IsReceived, IsUnanswered, IsUnsent, IsUnwritten, IsZoneOfText, creating, is_query, response_edns, response_to}
+use Rattle.examples.specs.Callers.{IsQueryAnswered, IsCreated, IsNotReceived, IsReceived, IsUnanswered, IsUnsent}
+use Rattle.examples.specs.Callers.{IsUnwritten, IsZoneOfText, creating, is_query, response_edns, response_to}
 use Rattle.examples.specs.declared.refusal.Refusal.{Refusal}
 use Rattle.examples.specs.declared.refusal.Refusal.TheVariants as refused
 
@@ -40,10 +42,12 @@ use Rattle.examples.specs.declared.refusal.Refusal.TheVariants as refused
 
 edns_fits : (edns : Option Edns) → All FitsEdns (as_list (response_edns edns))
 edns_fits None = All-nil FitsEdns
-edns_fits (Some e) = All-cons FitsEdns new_edns [] (record { payload = lit≤ tt; version = lit< tt; z = lit< tt }) (All-nil FitsEdns)
+edns_fits (Some e) = All-cons FitsEdns new_edns [] (record { payload = lit≤ tt; version = lit< tt; z = lit< tt })
+    (All-nil FitsEdns)
 
 -- a response to a query that was read can stand on the wire, if its answers can
-response_fits : (q : MessageValue) (answers : List (Record RData)) → Fits q → All (FitsPlain q.metadata.op_code) answers → Fits (response_to q answers)
+response_fits : (q : MessageValue) (answers : List (Record RData)) → Fits q → All (FitsPlain q.metadata.op_code) answers
+    → Fits (response_to q answers)
 response_fits q answers fits all = record {
   op_code = fits.op_code;
   op_code_reads = fits.op_code_reads;
@@ -55,14 +59,16 @@ response_fits q answers fits all = record {
   signature = All-nil _;
 }
 
-module _ (received : List ℕ) (answers : List (Record RData)) (q : MessageValue) (e : ℕ) (stands : IsMessageAt received 0 q e) (m : MessageValue) (limit : ℕ)
+module _ (received : List ℕ) (answers : List (Record RData)) (q : MessageValue) (e : ℕ)
+    (stands : IsMessageAt received 0 q e) (m : MessageValue) (limit : ℕ)
     (is : m ≡ response_to q answers) (taken : limit ≡ payload_taken q.edns) where
   -- writing the message under the limit is writing the response under what the client takes
   as_taken : message_answer (payload_taken q.edns) (response_to q answers) ≡ message_answer limit m
   as_taken = ap (message_answer (payload_taken q.edns)) (sym is) ∙ ap (λ n. message_answer n m) (sym taken)
 
   -- what is sent answers the query
-  pub answered : (sent : List ℕ) → is_query q ≡ true → Fits q → (Fits m → IsWritten m limit sent) → message_answer limit m ≡ Ok sent
+  pub answered : (sent : List ℕ) → is_query q ≡ true → Fits q → (Fits m → IsWritten m limit sent)
+      → message_answer limit m ≡ Ok sent
       → IsQueryAnswered received answers sent
   answered sent asks fits written exact = record {
     query = q;
@@ -70,14 +76,16 @@ module _ (received : List ℕ) (answers : List (Record RData)) (q : MessageValue
     stands = stands;
     asks = asks;
     exact = as_taken ∙ exact;
-    cut = λ all. subst (λ x. IsWritten x (payload_taken q.edns) sent) is (subst (λ n. IsWritten m n sent) taken (written (subst Fits (sym is) (response_fits q answers fits all))));
+    cut = λ all. subst (λ x. IsWritten x (payload_taken q.edns) sent) is
+        (subst (λ n. IsWritten m n sent) taken (written (subst Fits (sym is) (response_fits q answers fits all))));
   }
 
   unwritten : (refusal : ProtoError) → message_answer limit m ≡ Err refusal → IsUnwritten received answers refusal
   unwritten refusal exact = record { query = q; end = e; stands = stands; exact = as_taken ∙ exact }
 
   -- and a refusal says why nothing was
-  pub unanswered : (refusal : ProtoError) → (refusal ≡ refusals.Memory) ⊎ (message_answer limit m ≡ Err refusal) → IsUnanswered received answers refusal
+  pub unanswered : (refusal : ProtoError) → (refusal ≡ refusals.Memory) ⊎ (message_answer limit m ≡ Err refusal)
+      → IsUnanswered received answers refusal
   unanswered refusal (inl memory) = subst (λ r. IsUnanswered received answers r) (sym memory) tt
   unanswered refusals.MaxBufferSizeExceeded (inr exact) = unwritten refusals.MaxBufferSizeExceeded exact
   unanswered (refusals.NotAllRecordsWritten count) (inr exact) = unwritten (refusals.NotAllRecordsWritten count) exact
@@ -94,7 +102,8 @@ none_lost [] h = refl
 none_lost (x ∷ xs) h = absurd cc
 
 -- a cut whose TC is clear is whole
-uncut : {m : MessageValue} {limit : ℕ} {B : List ℕ} {c : MessageValue} (k : IsCut m limit B c) → c.metadata.truncation ≡ false → IsUncut k
+uncut : {m : MessageValue} {limit : ℕ} {B : List ℕ} {c : MessageValue} (k : IsCut m limit B c)
+    → c.metadata.truncation ≡ false → IsUncut k
 uncut {m = m} k clear =
     let said = sym (ap (λ d. d.truncation) k.metadata) ∙ clear in
     let first = or_parts m.metadata.truncation _ said in
@@ -105,12 +114,16 @@ uncut {m = m} k clear =
     (none_lost _ second.0, none_lost _ third.0, none_lost _ fourth.0, none_lost _ fifth.0, none_lost _ fifth.1)
 
 -- a map without texts lets none be included
-none_among : (includes : BTreeMap (String Global) (String Global)) → includes.entries ≡ [] → text_among (named_texts includes) ≡ no_texts
-none_among includes empty = ap (λ es. text_among (map (λ (e : String Global × String Global). (string_bytes e.0, string_bytes e.1)) es)) empty
+none_among : (includes : BTreeMap (String Global) (String Global)) → includes.entries ≡ []
+    → text_among (named_texts includes) ≡ no_texts
+none_among includes empty = ap (λ es. text_among
+    (map (λ (e : String Global × String Global). (string_bytes e.0, string_bytes e.1)) es)) empty
 
 -- a text that includes none is read as by a map without texts
-pub read_alone : (origin under : NameValue) (text : List ℕ) (includes : BTreeMap (String Global) (String Global)) (p : ParserValue) → under ≡ origin → includes.entries ≡ []
-    → p ≡ record { text = text; includes = named_texts includes; origin = Some under } → zone_of no_texts (Some origin) text ≡ zone_of (text_among p.includes) p.origin p.text
+pub read_alone : (origin under : NameValue) (text : List ℕ) (includes : BTreeMap (String Global) (String Global))
+    (p : ParserValue) → under ≡ origin → includes.entries ≡ []
+    → p ≡ record { text = text; includes = named_texts includes; origin = Some under }
+    → zone_of no_texts (Some origin) text ≡ zone_of (text_among p.includes) p.origin p.text
 read_alone origin under text includes p same empty is =
     ap (λ n. zone_of no_texts (Some n) text) (sym same)
     ∙ ap (λ (t : Texts). zone_of t (Some under) text) (sym (none_among includes empty))
@@ -118,20 +131,26 @@ read_alone origin under text includes p same empty is =
 
 -- what was not received whole was not sent
 pub unsent : (origin : NameValue) (s : SetValue) (B : List ℕ) → B ≡ message_bytes 65535 (creating origin s)
-    → (IsSendable origin s → IsWritten (creating origin s) 65535 B) → (e : Refusal) → IsNotReceived B e → IsUnsent origin s e
+    → (IsSendable origin s → IsWritten (creating origin s) 65535 B) → (e : Refusal) → IsNotReceived B e
+    → IsUnsent origin s e
 unsent origin s B exact written (refused.Decode fault) why =
-    subst (λ (C : List ℕ). (IsSendable origin s → IsWritten (creating origin s) 65535 C) × IsNotReceived C (refused.Decode fault)) exact (written, why)
+    subst (λ (C : List ℕ). (IsSendable origin s → IsWritten (creating origin s) 65535 C)
+    × IsNotReceived C (refused.Decode fault)) exact (written, why)
 unsent origin s B exact written refused.Input why =
-    subst (λ (C : List ℕ). (IsSendable origin s → IsWritten (creating origin s) 65535 C) × IsNotReceived C refused.Input) exact (written, why)
+    subst (λ (C : List ℕ). (IsSendable origin s → IsWritten (creating origin s) 65535 C)
+    × IsNotReceived C refused.Input) exact (written, why)
 unsent origin s B exact written refused.Class why = absurd why
 unsent origin s B exact written (refused.Parse e) why = absurd why
 unsent origin s B exact written (refused.Proto e) why = absurd why
 
-module _ (maps : MapsAreZones) (creates : CreateApplies) (origin : NameValue) (text : List ℕ) (s : SetValue) (bytes : List ℕ) (update : MessageValue)
+module _ (maps : MapsAreZones) (creates : CreateApplies) (origin : NameValue) (text : List ℕ) (s : SetValue)
+    (bytes : List ℕ) (update : MessageValue)
     (old new : BTreeMap RrKey SetValue) (code : ResponseCode) where
   -- the update that was received makes of the zone what creating the set makes
-  pub created : is_zone_of origin s.name ≡ true → (IsSendable origin s → IsWritten (creating origin s) 65535 bytes) → IsReceived bytes update
-      → IsZoneOfText origin text old → IsApplied origin classes.IN (sections_of update) old code new → IsCreated origin text s code new
+  pub created : is_zone_of origin s.name ≡ true → (IsSendable origin s → IsWritten (creating origin s) 65535 bytes)
+      → IsReceived bytes update
+      → IsZoneOfText origin text old → IsApplied origin classes.IN (sections_of update) old code new
+      → IsCreated origin text s code new
   created within written received before applied = record {
     old = old;
     before = before;
@@ -141,12 +160,18 @@ module _ (maps : MapsAreZones) (creates : CreateApplies) (origin : NameValue) (t
         let w = written sendable in
         let same = one_message bytes 0 update w.message _ _ received.stands w.is_cut.word in
         let whole = uncut w.is_cut (sym (ap (λ m. m.metadata.truncation) same.0) ∙ received.whole) in
-        creates 1 s origin false 65535 bytes w.message w.is_cut whole update received.end received.stands origin classes.IN old new code before.is_map (
+        creates 1 s origin false 65535 bytes w.message w.is_cut whole update received.end received.stands origin
+        classes.IN old new code before.is_map (
           record {
             zone = maps origin classes.IN old before.is_map;
             sound = sendable.sound;
             ordinary = ordinary;
-            place = record { same_origin = (same_by-equiv folded).refl origin; same_class = sym in_class; within = within };
+            place = record {
+              same_origin = (same_by-equiv folded).refl origin;
+              same_class = sym in_class;
+              within =
+                  within;
+            };
           },
           alone,
         )

@@ -2,11 +2,12 @@
 use Rattle.base.specs.declared.limits.TheConstants.{MAX_MESSAGE}
 use Rattle.std.specs.BTreeMap.{BTreeMap}
 use Rattle.std.specs.Option.{option_map}
-use Rattle.std.specs.Prelude.{All, Bool, Err, List, None, Ok, Option, Result, Some, Vec, false, if◌then◌else◌, length, map, not, true, ℕ, ◌&&◌, ◌-◌, ◌==◌, ◌≡◌, ◌⊎◌}
+use Rattle.std.specs.Prelude.{All, Bool, Err, List, None, Ok, Option, Result, Some, Vec, false, if◌then◌else◌, length}
+use Rattle.std.specs.Prelude.{map, not, true, ℕ, ◌&&◌, ◌-◌, ◌==◌, ◌≡◌, ◌⊎◌}
 use Rattle.std.specs.declared.alloc.Global.{Global}
-use Rattle.base.specs.Labels.{NameValue}
-use Rattle.base.specs.Reading.{Fails as FailsToRead}
-use Rattle.base.specs.TextFaults.{FailsWith, Fault}
+use Rattle.base.specs.names.Labels.{NameValue}
+use Rattle.base.specs.reading.Reading.{Fails as FailsToRead}
+use Rattle.base.specs.texts.TextFaults.{FailsWith, Fault}
 use Rattle.base.specs.declared.dns_class.DNSClass.TheVariants as classes
 use Rattle.base.specs.declared.error.proto_error.ProtoError.{ProtoError}
 use Rattle.base.specs.declared.error.proto_error.ProtoError.TheVariants as refusals

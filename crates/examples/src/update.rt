@@ -2,7 +2,7 @@
 
 ghost use Rattle.base.specs.declared.limits.TheConstants.{MAX_MESSAGE};
 ghost use Rattle.std.specs.Prelude.{◌≡◌, ◌⊎◌, Err, IfErr, IfOk, true};
-ghost use Rattle.base.specs.NameOrder.{is_zone_of};
+ghost use Rattle.base.specs.names.NameOrder.{is_zone_of};
 ghost use Rattle.base.specs.declared.error.proto_error.ProtoError.TheVariants as refusals;
 ghost use Rattle.op.specs.Cut.{IsWritten};
 ghost use Rattle.op.specs.Message.{message_value};

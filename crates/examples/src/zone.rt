@@ -1,6 +1,5 @@
 //! Checks zone text.
 
-ghost use Rattle.std.specs.Prelude.{Some};
 ghost use Rattle.txt.specs.Zone.{no_texts, zone_of};
 ghost use Rattle.examples.specs.Callers.{CountsSets};
 

@@ -1,9 +1,10 @@
 -- What an answer to a message tells, by the definition alone.
-use Rattle.std.proofs.Common.{◌≡◌, ℕ, ◌+◌, ◌-◌, ◌<◌, ◌≤◌, Bool, true, false, List, [], ◌∷◌, ◌++◌, length, refl, ap, sym, subst, arith, length-append, Result, Ok, Err}
+use Rattle.std.proofs.Common.{◌≡◌, ℕ, ◌+◌, ◌-◌, ◌<◌, ◌≤◌, Bool, true, false, List, [], ◌∷◌, ◌++◌, length, refl, ap, sym}
+use Rattle.std.proofs.Common.{subst, arith, length-append, Result, Ok, Err}
 use Rattle.std.specs.Prelude.{if◌then◌else◌, nat_lt}
 use Rattle.std.proofs.lemmas.Bool.{ltb-false, ltb-true}
-use Rattle.base.specs.State.{Stored}
-use Rattle.base.specs.Written.{FirstPassesAt, in_turn}
+use Rattle.base.specs.writing.State.{Stored}
+use Rattle.base.specs.writing.Written.{FirstPassesAt, in_turn}
 use Rattle.base.specs.declared.error.proto_error.ProtoError.{ProtoError}
 use Rattle.base.specs.declared.error.proto_error.ProtoError.TheVariants as refusals
 use Rattle.op.specs.Cut.{IsTooSmall}
@@ -13,7 +14,7 @@ use Rattle.op.specs.MessageWritten.{Part, message_answer_at, message_written, pa
 use Rattle.op.specs.Query.{query_written}
 use Rattle.op.specs.QuerySays.{query_says}
 use Rattle.op.specs.declared.query.Query.{Query}
-use Rattle.op.proofs.PartLemmas.{part_lost}
+use Rattle.op.proofs.writing.PartLemmas.{part_lost}
 
 -- questions take no more bytes than uncompressed
 pub queries_most : (qs : List Query) (at : ℕ) (stored : List Stored)

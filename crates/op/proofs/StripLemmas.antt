@@ -13,7 +13,8 @@ use Rattle.op.specs.declared.query.Query.{Query}
 abbrev pub stripped_for : Query → MessageValue → MessageValue
 stripped_for q m = stripped_by (q ∷ []) m
 
-pub first_asks : (qs : List Query) (q : Query) (m : MessageValue) → slice_get qs 0 ≡ Some q → stripped_by qs m ≡ stripped_for q m
+pub first_asks : (qs : List Query) (q : Query) (m : MessageValue) → slice_get qs 0 ≡ Some q
+    → stripped_by qs m ≡ stripped_for q m
 first_asks [] q m is = cc
 first_asks (x ∷ xs) q m is =
     let same : x ≡ q = head x xs is in
@@ -35,7 +36,8 @@ filter_twice p (x ∷ xs) = elim (cases_Bool (p x)) [
 ]
 
 same_sections : (m : MessageValue) {b c a' b' c' a : List (Record RData)} → a ≡ a' → b ≡ b' → c ≡ c'
-    → ◌≡◌ {A = MessageValue} (record m { answers = a; authorities = b; additionals = c }) (record m { answers = a'; authorities = b'; additionals = c' })
+    → ◌≡◌ {A = MessageValue} (record m { answers = a; authorities = b; additionals = c })
+    (record m { answers = a'; authorities = b'; additionals = c' })
 same_sections m p q r = rw (p, q, r) refl
 
 by_twice : (qs : List Query) (m : MessageValue) → stripped_by qs (stripped_by qs m) ≡ stripped_by qs m
@@ -50,17 +52,22 @@ queries_stay (q ∷ qs) m = refl
 
 pub strip_twice : (takes : Bool) (m : MessageValue) → stripped takes (stripped takes m) ≡ stripped takes m
 strip_twice true m = refl
-strip_twice false m = ap (λ qs. stripped_by qs (stripped_by m.queries m)) (queries_stay m.queries m) ∙ by_twice m.queries m
+strip_twice false m = ap (λ qs. stripped_by qs (stripped_by m.queries m)) (queries_stay m.queries m)
+    ∙ by_twice m.queries m
 
 pub strip_none : (takes : Bool) (m : MessageValue) → m.queries ≡ [] → stripped takes m ≡ m
 strip_none true m is = refl
 strip_none false m is = none_asks m.queries m is
 
 -- a message whose sections were stripped by the first question's type
-pub strips : {takes : Bool} {q : Query} {asked : RecordType} {a b c : List (Record RData)} (m : MessageValue) → takes ≡ false → slice_get m.queries 0 ≡ Some q → asked ≡ q.query_type
-    → a ≡ filter (is_for_all asked) m.answers → b ≡ filter (is_for_all asked) m.authorities → c ≡ filter (is_for_all asked) m.additionals
+pub strips : {takes : Bool} {q : Query} {asked : RecordType} {a b c : List (Record RData)} (m : MessageValue)
+    → takes ≡ false → slice_get m.queries 0 ≡ Some q → asked ≡ q.query_type
+    → a ≡ filter (is_for_all asked) m.answers → b ≡ filter (is_for_all asked) m.authorities
+    → c ≡ filter (is_for_all asked) m.additionals
     → ◌≡◌ {A = MessageValue} (record m { answers = a; authorities = b; additionals = c }) (stripped takes m)
 strips {q = q} {asked = asked} m is first same answers authorities additionals =
-    let by : (rs : List (Record RData)) → filter (is_for_all asked) rs ≡ filter (is_for_all q.query_type) rs = λ rs. ap (λ (t : RecordType). filter (is_for_all t) rs) same in
-    let kept = same_sections m (answers ∙ by m.answers) (authorities ∙ by m.authorities) (additionals ∙ by m.additionals) in
+    let by : (rs : List (Record RData)) → filter (is_for_all asked) rs ≡ filter (is_for_all q.query_type) rs =
+    λ rs. ap (λ (t : RecordType). filter (is_for_all t) rs) same in
+    let kept = same_sections m (answers ∙ by m.answers) (authorities ∙ by m.authorities)
+    (additionals ∙ by m.additionals) in
     kept ∙ sym (first_asks m.queries q m first) ∙ ap (λ (f : Bool). stripped f m) (sym is)

@@ -1,8 +1,9 @@
 -- How a message is put together from its parts (RFC 1035, 4.1).
 -- A run relates an encoder's state to the answer of what was done with it and to the state after that.
-use Rattle.std.specs.Prelude.{◌≡◌, ℕ, Bool, true, false, All, ◌+◌, ◌<◌, ◌≤◌, max, ◌^◌, ◌||◌, List, ◌++◌, codes, length, replicate, ⊤, Result, Ok, Err}
-use Rattle.base.specs.State.{State, appended, overwritten}
-use Rattle.base.specs.Wire.{Refuses}
+use Rattle.std.specs.Prelude.{◌≡◌, ℕ, Bool, true, false, All, ◌+◌, ◌<◌, ◌≤◌, max, ◌^◌, ◌||◌, List, ◌++◌, codes, length}
+use Rattle.std.specs.Prelude.{replicate, ⊤, Result, Ok, Err}
+use Rattle.base.specs.writing.State.{State, appended, overwritten}
+use Rattle.base.specs.writing.Wire.{Refuses}
 use Rattle.base.specs.declared.error.proto_error.ProtoError.{ProtoError}
 use Rattle.base.specs.declared.error.proto_error.ProtoError.TheVariants as refusals
 use Rattle.base_data.specs.declared.rdata.RData.{RData}
@@ -14,7 +15,7 @@ use Rattle.op.specs.Header.{IsNarrow, header_bytes, raw_header}
 use Rattle.op.specs.declared.header.Header.{Header}
 use Rattle.op.specs.declared.header.metadata.Metadata.{Metadata}
 use Rattle.op.specs.declared.message.writing.Written.{Written}
-use Rattle.base.specs.Written.{FirstPasses, Writing, after, in_turn}
+use Rattle.base.specs.writing.Written.{FirstPasses, Writing, after, in_turn}
 
 -- ---- runs one after another
 

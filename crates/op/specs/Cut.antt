@@ -1,8 +1,9 @@
 -- What stands of a message that was written under a limit (RFC 1035, 4.1.1; RFC 2181, 9; RFC 6891, 6.1.3).
 use Rattle.base.specs.declared.limits.TheConstants.{POINTER_LIMIT}
-use Rattle.std.specs.Prelude.{◌≡◌, ◌≢◌, ℕ, Bool, true, false, All, ◌+◌, ◌%◌, ◌<◌, ◌≤◌, ◌||◌, List, [], ◌∷◌, ◌++◌, length, Option, Some, None, Ok}
+use Rattle.std.specs.Prelude.{◌≡◌, ◌≢◌, ℕ, Bool, true, false, All, ◌+◌, ◌%◌, ◌<◌, ◌≤◌, ◌||◌, List, [], ◌∷◌, ◌++◌}
+use Rattle.std.specs.Prelude.{length, Option, Some, None, Ok}
 use Rattle.std.specs.Option.{option_map}
-use Rattle.base.specs.Labels.{size_of}
+use Rattle.base.specs.names.Labels.{size_of}
 use Rattle.base.specs.Words.{BackToBack}
 use Rattle.base.specs.declared.error.proto_error.ProtoError.{ProtoError}
 use Rattle.base.specs.declared.error.proto_error.ProtoError.TheVariants as refusals

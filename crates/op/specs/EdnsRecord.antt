@@ -1,7 +1,7 @@
 -- The OPT record of EDNS (RFC 6891, 6.1.2 and 6.1.3).
 use Rattle.std.specs.Prelude.{ℕ, ◌+◌, ◌*◌, List, [], ◌∷◌, false, true}
 use Rattle.base.specs.DNSClass.{opt_class}
-use Rattle.base.specs.Written.{Writing}
+use Rattle.base.specs.writing.Written.{Writing}
 use Rattle.base.specs.declared.record_type.RecordType.TheVariants as types
 use Rattle.base_data.specs.OPT.{OptionValue}
 use Rattle.base_data.specs.declared.rdata.RData.{RData}

@@ -1,7 +1,7 @@
 -- What is known of what is written of EDNS: it is its OPT record.
 use Rattle.std.specs.Prelude.{[]}
-use Rattle.base.specs.Says.{Says}
-use Rattle.base.specs.SaysParts.{Says-unowned}
+use Rattle.base.specs.writing.Says.{Says}
+use Rattle.base.specs.writing.SaysParts.{Says-unowned}
 use Rattle.base_data.specs.Kinds.{data_says}
 use Rattle.rr.specs.RecordSays.{KeptRecord, record_says}
 use Rattle.op.specs.EdnsRecord.{EdnsWord, edns_record, edns_written, opt_data, plain_edns}

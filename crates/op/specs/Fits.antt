@@ -1,6 +1,7 @@
 -- Messages that the wire can carry (RFC 1035, 4.1; RFC 2136, 2.4 and 2.5; RFC 6891, 6.1; RFC 8945, 5.1).
 use Rattle.base.specs.declared.limits.TheConstants.{MIN_PAYLOAD}
-use Rattle.std.specs.Prelude.{◌≡◌, ℕ, All, ◌+◌, ◌/◌, ◌%◌, ◌<◌, ◌≤◌, ◌||◌, List, [], ◌∷◌, Option, Some, None, Bool, false, true}
+use Rattle.std.specs.Prelude.{◌≡◌, ℕ, All, ◌+◌, ◌/◌, ◌%◌, ◌<◌, ◌≤◌, ◌||◌, List, [], ◌∷◌, Option, Some, None, Bool}
+use Rattle.std.specs.Prelude.{false, true}
 use Rattle.std.specs.Option.{option_map}
 use Rattle.base_data.specs.declared.rdata.RData.{RData}
 use Rattle.base_data.specs.declared.rdata.RData.TheVariants as kinds

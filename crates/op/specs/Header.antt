@@ -1,11 +1,12 @@
 -- The header word (RFC 1035, 4.1.1; AD and CD of RFC 4035, 3.1.6).
-use Rattle.std.specs.Prelude.{◌≡◌, ℕ, ◌<◌, ◌^◌, ◌+◌, ◌*◌, ◌/◌, ◌%◌, Bool, true, false, ◌||◌, ◌==◌, List, [], ◌∷◌, ◌++◌, Ok}
+use Rattle.std.specs.Prelude.{◌≡◌, ℕ, ◌<◌, ◌^◌, ◌+◌, ◌*◌, ◌/◌, ◌%◌, Bool, true, false, ◌||◌, ◌==◌, List, [], ◌∷◌, ◌++◌}
+use Rattle.std.specs.Prelude.{Ok}
 use Rattle.std.specs.Int.{w16, to_be_bytes}
 use Rattle.std.specs.Ordering.{on, then_cmp}
 use Rattle.std.specs.declared.cmp.Ordering.{Ordering}
-use Rattle.base.specs.Spelling.{ByteAt, anywhere}
+use Rattle.base.specs.reading.Spelling.{ByteAt, anywhere}
 use Rattle.base.specs.Words.{IsNumberAt}
-use Rattle.base.specs.Reading.{Read, ◌>>=◌, byte_at, number_at}
+use Rattle.base.specs.reading.Reading.{Read, ◌>>=◌, byte_at, number_at}
 use Rattle.op.specs.HeaderCounts.{counts_cmp}
 use Rattle.op.specs.MessageType.{kind_value, is_response}
 use Rattle.op.specs.Metadata.{metadata_cmp}

@@ -1,12 +1,14 @@
 -- What is known of what is written of a header: its bytes are its word.
-use Rattle.std.proofs.Common.{◌≡◌, ℕ, ◌+◌, ◌*◌, ◌/◌, ◌%◌, ◌<◌, Bool, true, false, List, [], ◌∷◌, ◌++◌, refl, arith, lit<}
+use Rattle.std.proofs.Common.{◌≡◌, ℕ, ◌+◌, ◌*◌, ◌/◌, ◌%◌, ◌<◌, Bool, true, false, List, [], ◌∷◌, ◌++◌, refl, arith}
+use Rattle.std.proofs.Common.{lit<}
 use Rattle.std.specs.Int.{w16, to_be_bytes, from_bool}
-use Rattle.base.specs.Says.{Says}
-use Rattle.base.specs.SaysParts.{Says-just}
+use Rattle.base.specs.writing.Says.{Says}
+use Rattle.base.specs.writing.SaysParts.{Says-just}
 use Rattle.base.specs.Words.{Stands}
-use Rattle.base.specs.Written.{just}
+use Rattle.base.specs.writing.Written.{just}
 use Rattle.base.specs.WordLemmas.{first_stands, number16_stands, stands_byte, stands_part}
-use Rattle.op.specs.Header.{IsNarrow, IsRawHeaderAt, HeaderWord, RawHeader, bit_of, weighed, high_byte, low_byte, header_bytes, raw_header}
+use Rattle.op.specs.Header.{IsNarrow, IsRawHeaderAt, HeaderWord, RawHeader, bit_of, weighed, high_byte, low_byte}
+use Rattle.op.specs.Header.{header_bytes, raw_header}
 use Rattle.op.specs.declared.header.Header.{Header}
 
 -- what a bit weighs is its number times the weight, and its number is 1 at most

@@ -1,8 +1,8 @@
 -- Questions with their names in lower case.
 use Rattle.std.specs.Prelude.{ℕ, List, ◌++◌, codes}
 use Rattle.base.specs.DNSClass.{class_text}
-use Rattle.base.specs.NameOrder.{lowered}
-use Rattle.base.specs.NameText.{name_text}
+use Rattle.base.specs.names.NameOrder.{lowered}
+use Rattle.base.specs.texts.NameText.{name_text}
 use Rattle.base.specs.RecordType.{type_text}
 use Rattle.op.specs.declared.query.Query.{Query}
 

@@ -1,8 +1,8 @@
 -- The message word, and reading a message (RFC 1035, 4.1; RFC 6891, 6.1.3; RFC 8945, 5.1).
 use Rattle.std.specs.Prelude.{◌≡◌, ℕ, ◌+◌, All, List, [], length, Option, Some, None, Ok}
 use Rattle.std.specs.Option.{option_map}
-use Rattle.base.specs.Many.{many_at}
-use Rattle.base.specs.Reading.{Read, ◌>>=◌}
+use Rattle.base.specs.reading.Many.{many_at}
+use Rattle.base.specs.reading.Reading.{Read, ◌>>=◌}
 use Rattle.base.specs.Words.{BackToBack}
 use Rattle.base_data.specs.declared.rdata.RData.{RData}
 use Rattle.rr.specs.Record.{IsRecordAt}
@@ -10,7 +10,8 @@ use Rattle.rr.specs.declared.record.Record.{Record}
 use Rattle.op.specs.Header.{IsHeaderAt, header_at}
 use Rattle.op.specs.Query.{IsQueryAt, query_at}
 use Rattle.op.specs.ResponseCode.{code_from, code_low}
-use Rattle.op.specs.Section.{AtMostOneOpt, EndsWithSignature, HasNeededData, IsPlain, SectionValue, sections_at, section_of}
+use Rattle.op.specs.Section.{AtMostOneOpt, EndsWithSignature, HasNeededData, IsPlain, SectionValue, sections_at}
+use Rattle.op.specs.Section.{section_of}
 use Rattle.op.specs.declared.edns.Edns.{Edns}
 use Rattle.op.specs.declared.header.Header.{Header}
 use Rattle.op.specs.declared.header.header_counts.HeaderCounts.{HeaderCounts}

@@ -1,10 +1,11 @@
 -- What is written of a message under a limit, as a function of both (RFC 1035, 4.1; RFC 2181, 9; RFC 6891, 6.1.3).
-use Rattle.std.specs.Prelude.{◌≡◌, ℕ, Bool, ◌+◌, ◌||◌, List, [], ◌++◌, false, length, nat_lt, replicate, if◌then◌else◌, Result, Ok, Err}
+use Rattle.std.specs.Prelude.{◌≡◌, ℕ, Bool, ◌+◌, ◌||◌, List, [], ◌++◌, false, length, nat_lt, replicate, if◌then◌else◌}
+use Rattle.std.specs.Prelude.{Result, Ok, Err}
 use Rattle.std.specs.Option.{option_map}
-use Rattle.base.specs.State.{State, Stored}
+use Rattle.base.specs.writing.State.{State, Stored}
 use Rattle.base.specs.declared.error.proto_error.ProtoError.{ProtoError}
 use Rattle.base.specs.declared.error.proto_error.ProtoError.TheVariants as refusals
-use Rattle.base.specs.Written.{FirstPassesAt, Piece, Writing, after, both, in_turn, just, that_fit}
+use Rattle.base.specs.writing.Written.{FirstPassesAt, Piece, Writing, after, both, in_turn, just, that_fit}
 use Rattle.base_data.specs.declared.rdata.RData.{RData}
 use Rattle.rr.specs.Record.{record_written}
 use Rattle.rr.specs.declared.record.Record.{Record}

@@ -1,6 +1,7 @@
 -- What calls make of the parts of a message.
 use Rattle.base.specs.declared.limits.TheConstants.{MIN_PAYLOAD}
-use Rattle.std.specs.Prelude.{◌≡◌, ℕ, Bool, true, false, not, ◌||◌, ◌++◌, List, [], ◌∷◌, filter, max, Option, Some, None, Result, Ok, Err}
+use Rattle.std.specs.Prelude.{◌≡◌, ℕ, Bool, true, false, not, ◌||◌, ◌++◌, List, [], ◌∷◌, filter, max, Option, Some}
+use Rattle.std.specs.Prelude.{None, Result, Ok, Err}
 use Rattle.std.specs.Iterator.{YieldsThen}
 use Rattle.base.specs.RecordType.{is_dnssec_type, same_type}
 use Rattle.base.specs.declared.record_type.RecordType.{RecordType}

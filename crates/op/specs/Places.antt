@@ -1,9 +1,9 @@
 -- The places of the names of questions, records and messages (RFC 1035, 4.1).
 use Rattle.std.specs.Prelude.{ℕ, ◌+◌, List, [], ◌∷◌, ◌++◌, Ok, Err}
 use Rattle.std.specs.List.{flat_map}
-use Rattle.base.specs.Labels.{NameValue}
-use Rattle.base.specs.Many.{many_at, many_names}
-use Rattle.base.specs.Reading.{Read, place_after}
+use Rattle.base.specs.names.Labels.{NameValue}
+use Rattle.base.specs.reading.Many.{many_at, many_names}
+use Rattle.base.specs.reading.Reading.{Read, place_after}
 use Rattle.op.specs.Header.{header_at}
 use Rattle.op.specs.Message.{IsMessageAt, MessageValue}
 use Rattle.op.specs.Query.{query_at}

@@ -2,15 +2,15 @@
 use Rattle.std.specs.Prelude.{◌≡◌, ℕ, ◌+◌, ◌<◌, ◌⊎◌, length, List, ◌++◌, codes, true, false, if◌then◌else◌, Ok}
 use Rattle.std.specs.Int.{w16, to_be_bytes}
 use Rattle.base.specs.DNSClass.{class_field, class_number, class_text, class_of, field_class, field_top}
-use Rattle.base.specs.Labels.{NameValue, plain_len}
-use Rattle.base.specs.NameText.{name_text}
-use Rattle.base.specs.Names.{name_at}
-use Rattle.base.specs.Reading.{Read, ◌>>=◌, number_at}
+use Rattle.base.specs.names.Labels.{NameValue, plain_len}
+use Rattle.base.specs.texts.NameText.{name_text}
+use Rattle.base.specs.reading.Names.{name_at}
+use Rattle.base.specs.reading.Reading.{Read, ◌>>=◌, number_at}
 use Rattle.base.specs.RecordType.{type_number, type_of, type_text}
-use Rattle.base.specs.Faults.{IsFaulty}
-use Rattle.base.specs.Spelling.{IsNameAt}
+use Rattle.base.specs.reading.Faults.{IsFaulty}
+use Rattle.base.specs.reading.Spelling.{IsNameAt}
 use Rattle.base.specs.Words.{IsNumberAt, NameAt}
-use Rattle.base.specs.Written.{Writing, both, just, name}
+use Rattle.base.specs.writing.Written.{Writing, both, just, name}
 use Rattle.base.specs.declared.error.decode_error.DecodeError.{DecodeError}
 use Rattle.base.specs.declared.error.decode_error.DecodeError.TheVariants as faults
 use Rattle.base.specs.declared.dns_class.DNSClass.TheVariants as classes

@@ -1,12 +1,12 @@
 -- What is known of what is written of a question.
 use Rattle.std.proofs.Common.{ℕ, ◌^◌, ◌<◌, List, subst, arith}
 use Rattle.std.specs.Int.{w16, to_be_bytes}
-use Rattle.base.specs.Labels.{AreNameLabels}
-use Rattle.base.specs.Says.{Says}
-use Rattle.base.specs.SaysName.{Says-name}
-use Rattle.base.specs.SaysParts.{Says-both, Says-number, Says-weaker}
+use Rattle.base.specs.names.Labels.{AreNameLabels}
+use Rattle.base.specs.writing.Says.{Says}
+use Rattle.base.specs.writing.SaysName.{Says-name}
+use Rattle.base.specs.writing.SaysParts.{Says-both, Says-number, Says-weaker}
 use Rattle.base.specs.Words.{IsNumberAt, NameAt, Number, Then}
-use Rattle.base.specs.Written.{both, just, name}
+use Rattle.base.specs.writing.Written.{both, just, name}
 use Rattle.op.specs.Query.{QueryWord, plain_query, query_written, raw_query}
 use Rattle.op.specs.declared.query.Query.{Query}
 

@@ -1,7 +1,7 @@
 -- Reading by calls whose refusals wrap those of reading.
 use Rattle.std.specs.Prelude.{◌≡◌, ℕ, Result, Ok, Err}
-use Rattle.base.specs.Reader.{Reader}
-use Rattle.base.specs.Reading.{Fails}
+use Rattle.base.specs.reading.Reader.{Reader}
+use Rattle.base.specs.reading.Reading.{Fails}
 use Rattle.base.specs.declared.error.decode_error.DecodeError.{DecodeError}
 use Rattle.base.specs.declared.error.proto_error.ProtoError.{ProtoError}
 use Rattle.base.specs.declared.error.proto_error.ProtoError.TheVariants as refusals

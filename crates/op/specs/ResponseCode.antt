@@ -1,5 +1,6 @@
 -- The response codes (RFC 1035, 4.1.1; RFC 2136, 2.2; RFC 6891, 9; RFC 8945, 3; RFC 2930, 2.6; RFC 7873, 8).
-use Rattle.std.specs.Prelude.{ℕ, List, ◌++◌, ◌+◌, ◌*◌, ◌/◌, ◌%◌, ◌==◌, codes, if◌then◌else◌, Option, Some, None, unwrap_or}
+use Rattle.std.specs.Prelude.{ℕ, List, ◌++◌, ◌+◌, ◌*◌, ◌/◌, ◌%◌, ◌==◌, codes, if◌then◌else◌, Option, Some, None}
+use Rattle.std.specs.Prelude.{unwrap_or}
 use Rattle.std.specs.Fmt.{decimal}
 use Rattle.std.specs.Ordering.{nat_cmp, on, then_cmp}
 use Rattle.std.specs.declared.cmp.Ordering.{Ordering}

@@ -1,11 +1,12 @@
 -- The sections of a message: the tests on their records, and what becomes of them (RFC 1035, 4.1; RFC 6891, 6.1.1; RFC
 -- 8945, 5.1).
-use Rattle.std.specs.Prelude.{◌≡◌, All, ℕ, Bool, true, false, not, ◌&&◌, ◌||◌, ◌≤◌, ◌/◌, ◌%◌, ◌++◌, List, [], ◌∷◌, length, filter, find, Option, Some, None}
+use Rattle.std.specs.Prelude.{◌≡◌, All, ℕ, Bool, true, false, not, ◌&&◌, ◌||◌, ◌≤◌, ◌/◌, ◌%◌, ◌++◌, List, [], ◌∷◌}
+use Rattle.std.specs.Prelude.{length, filter, find, Option, Some, None}
 use Rattle.std.specs.Prelude.{if◌then◌else◌, is_some, zero, suc, Ok, Err, Result}
 use Rattle.std.specs.Global.{Box, Vec}
 use Rattle.std.specs.Option.{option_map}
 use Rattle.base.specs.DNSClass.{class_number}
-use Rattle.base.specs.Reading.{Read, ◌>>=◌}
+use Rattle.base.specs.reading.Reading.{Read, ◌>>=◌}
 use Rattle.base.specs.Words.{BackToBack}
 use Rattle.base.specs.declared.error.decode_error.DecodeError.{DecodeError}
 use Rattle.base.specs.declared.error.decode_error.DecodeError.TheVariants as faults

@@ -2,13 +2,13 @@
 
 ghost use Rattle.std.specs.Prelude.{◌≡◌, ◌↔◌, ◌<◌, ◌+◌, ◌%◌, ◌≤◌, ◌||◌, ◌^◌, ℕ, List, [], ◌∷◌, length, slice_index, Ok, Err, IfOk, OnOk, OnErr, IsOkUnless, IsErrOf};
 ghost use Rattle.std.specs.Int.{w16, from_be_bytes};
-ghost use Rattle.base.specs.Tracks.{Tracks};
-ghost use Rattle.base.specs.Reading.{Reads};
-ghost use Rattle.base.specs.State.{appended};
-ghost use Rattle.base.specs.Laws.{Keeps};
-ghost use Rattle.base.specs.Wire.{state_of};
+ghost use Rattle.base.specs.reading.Tracks.{Tracks};
+ghost use Rattle.base.specs.reading.Reading.{Reads};
+ghost use Rattle.base.specs.writing.State.{appended};
+ghost use Rattle.base.specs.writing.Laws.{Keeps};
+ghost use Rattle.base.specs.writing.Wire.{state_of};
 ghost use Rattle.base.specs.Words.{Stands};
-ghost use Rattle.base.specs.Written.{Exactly, just};
+ghost use Rattle.base.specs.writing.Written.{Exactly, just};
 ghost use Rattle.op.specs.Header.{HeaderWord, IsHeaderAt, IsNarrow, bit_of, header_at, header_bytes, high_byte, low_byte, metadata_of_bytes, raw_header};
 ghost use Rattle.op.specs.HeaderSays.{header_says};
 ghost use Rattle.op.specs.MessageType.{is_response};

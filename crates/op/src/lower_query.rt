@@ -3,7 +3,7 @@
 ghost use Rattle.std.specs.Prelude.{◌≡◌, IfOk, IsOkUnless, MatchResult, Some};
 ghost use Rattle.base.specs.declared.error.proto_error.ProtoError.TheVariants as refusals;
 ghost use Rattle.std.specs.Cmp.{partial_equiv_from_equiv};
-ghost use Rattle.base.specs.NameOrder.{lowered};
+ghost use Rattle.base.specs.names.NameOrder.{lowered};
 ghost use Rattle.op.specs.contracts.query.QueryEq.TheImpl.Laws.{laws-law as query_laws};
 ghost use Rattle.op.specs.LowerQuery.{lower_query_text};
 ghost use Rattle.op.specs.Places.{query_places};
@@ -28,7 +28,7 @@ pub struct LowerQuery {
 
 impl Model for LowerQuery {
     ghost use Rattle.std.specs.Prelude.{◌≡◌};
-    ghost use Rattle.base.specs.NameOrder.{lowered};
+    ghost use Rattle.base.specs.names.NameOrder.{lowered};
     ghost use Rattle.op.specs.declared.query.Query.{Query};
 
     ghost Value = { Query };

@@ -2,11 +2,10 @@
 
 ghost use Rattle.std.specs.Option.{option_copied};
 ghost use Rattle.std.specs.Prelude.{◌≡◌, ◌+◌, ◌++◌, ◌∷◌, [], filter, IfOk, IsOkUnless, None, OnErr, OnOk, Some};
-ghost use Rattle.base.specs.Items.{IsCountable};
+ghost use Rattle.base.specs.writing.Items.{IsCountable};
 ghost use Rattle.op.specs.Message.{empty_message, message_value};
 ghost use Rattle.op.specs.Metadata.{plain_metadata};
 ghost use Rattle.op.specs.Parts.{AddsGiven, edns_version, is_for_all, payload_taken, stripped, truncated};
-ghost use Rattle.op.specs.declared.header.message_type.MessageType.TheVariants as message_types;
 
 mod display;
 mod fits_wire;

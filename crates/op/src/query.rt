@@ -2,12 +2,12 @@
 
 ghost use Rattle.std.specs.Prelude.{◌≡◌, ◌↔◌, ◌+◌, ◌++◌, ◌<◌, ◌^◌, ℕ, List, length, Ok, Err, Some, IfErr, IfOk, OnOk, IsTrue, [], true};
 ghost use Rattle.std.specs.Int.{w16, to_be_bytes};
-ghost use Rattle.base.specs.Laws.{Keeps};
-ghost use Rattle.base.specs.NameOrder.{same_name};
-ghost use Rattle.base.specs.Wire.{state_of};
-ghost use Rattle.base.specs.Tracks.{Tracks};
+ghost use Rattle.base.specs.writing.Laws.{Keeps};
+ghost use Rattle.base.specs.names.NameOrder.{same_name};
+ghost use Rattle.base.specs.writing.Wire.{state_of};
+ghost use Rattle.base.specs.reading.Tracks.{Tracks};
 ghost use Rattle.base.specs.Words.{IsNumberAt};
-ghost use Rattle.base.specs.Written.{Exactly, just};
+ghost use Rattle.base.specs.writing.Written.{Exactly, just};
 ghost use Rattle.op.specs.Places.{query_places};
 ghost use Rattle.op.specs.Query.{FitsQuery, IsQueryAt, IsQueryFault, QueryWord, plain_query, plain_question, query_at, query_text, query_written, query_value, raw_query};
 ghost use Rattle.op.specs.QuerySays.{QueryKept, query_says};
@@ -162,7 +162,7 @@ impl BinEncodable for Query {
     /// # Errors
     ///
     /// `MaxBufferSizeExceeded` where a byte would pass the limit; `Memory` if memory runs out.
-    #[tactic(auto, using(base::proofs::LawLemmas::writing))]
+    #[tactic(auto, using(base::proofs::writing::LawLemmas::writing))]
     fn emit(&self, encoder: &mut BinEncoder<'_>) -> Result<(), ProtoError> {
         self.name.emit(encoder)?;
         let class = self.query_class.to_field(self.mdns_unicast_response);

@@ -1,150 +1,254 @@
 -- Steps of changing the sets of a zone.
 use Rattle.base.specs.RrKey.{key_cmp}
+use Rattle.base.specs.names.Labels.{NameValue}
 use Rattle.base.specs.declared.dns_class.DNSClass.{DNSClass}
 use Rattle.base.specs.declared.rr_key.RrKey.{RrKey}
 use Rattle.base_data.specs.SameData.{same_data}
 use Rattle.base_data.specs.declared.rdata.RData.{RData}
-use Rattle.op_use.proofs.AppliedData.{distinct_joined}
-use Rattle.op_use.proofs.HeldSteps.{put_back}
-use Rattle.op_use.proofs.MapSteps.{puts_again}
-use Rattle.op_use.specs.CurrentSets.{renewed_set}
-use Rattle.op_use.proofs.ZoneSteps.{same_key, tied}
+use Rattle.op_use.proofs.AfterSteps.{map_after, more_after}
+use Rattle.op_use.proofs.AppliedData.{Distinct, distinct_joined, distinct_without}
+use Rattle.op_use.proofs.KeySets.{Sets, each_key, one_more, owned_key, put_beside, put_here, same_more}
+use Rattle.op_use.proofs.UpdateSteps.{Changes, moves, stays}
 use Rattle.op_use.specs.Applying.{IsZoneMap, IsZoneSet, records_at, records_in}
-use Rattle.op_use.specs.HeldZone.{HeldZone}
-use Rattle.op_use.specs.MapUpdates.{HoldsAt, IsSetTo, Lacks, LacksAll, Puts}
+use Rattle.op_use.specs.CurrentSets.{renewed_set}
+use Rattle.op_use.specs.HeldZone.{HeldZone, zone_held}
+use Rattle.op_use.specs.NamedChanges.{set_key}
+use Rattle.op_use.specs.MapUpdates.{HasSets, HoldsAt, IsSetTo, IsUpdated, has_key}
+use Rattle.op_use.specs.Zone.{is_guarded, is_owned}
+use Rattle.rr.proofs.WithoutSteps.{without_none}
 use Rattle.rr.specs.Record.{record_key}
 use Rattle.rr.specs.RecordSet.{SetValue}
 use Rattle.rr.specs.SetChanges.{joined}
-use Rattle.rr.specs.SetUpdates.{last_ttl, with_records}
+use Rattle.rr.specs.SetUpdates.{has_data_of_one, last_ttl, with_records, without, without_data}
 use Rattle.rr.specs.declared.record.Record.{Record}
-use Rattle.std.proofs.Common.{ap, inr, refl, subst, sym, ◌∙◌}
-use Rattle.std.proofs.lemmas.List.Elements.{filter-append}
-use Rattle.std.proofs.lemmas.List.{append-nil}
-use Rattle.std.proofs.lemmas.Option.{same_Some}
+use Rattle.std.proofs.Common.{ap, inl, inr, refl, subst, sym, ◌∙◌, ◌⊎◌}
+use Rattle.std.proofs.lemmas.Option.{none-some, same_Some}
 use Rattle.std.specs.BTreeMap as tree
 use Rattle.std.specs.BTreeMap.{BTreeMap}
 use Rattle.std.specs.List.{IsDistinct, filter, list_any}
-use Rattle.std.specs.Ordering.{eq_by_cmp, on}
-use Rattle.std.specs.Prelude.{Bool, IfSome, List, None, Option, Some, [], cond, false, true, ◌&&◌, ◌++◌, ◌||◌, ◌∷◌, ◌≡◌, ◌≢◌}
+use Rattle.std.specs.Ordering.{on}
+use Rattle.std.specs.Prelude.{Bool, IfSome, List, None, Option, Some, [], cond, false, is_some, not, true, ◌&&◌, ◌++◌}
+use Rattle.std.specs.Prelude.{◌∷◌, ◌≡◌, ◌≢◌}
 
-abbrev pub Sets : Type 0
-Sets = BTreeMap RrKey SetValue
-
-pub taken_out : (ch new : Sets) (k : RrKey) → Puts k None ch new → tree.get key_cmp new k ≡ None
-taken_out ch new k h = h k ∙ ap (λ b. cond b None (tree.get key_cmp ch k)) (tied k)
-
-put_is : (class : DNSClass) (k : RrKey) (t : SetValue) (ch : Sets) (q : RrKey) (s : SetValue) (b : Bool) → eq_by_cmp key_cmp k q ≡ b → IsZoneMap class ch → IsZoneSet class k t
-    → cond b (Some t) (tree.get key_cmp ch q) ≡ Some s → IsZoneSet class q s
-put_is class k t ch q s true e h fits is = subst (λ p. IsZoneSet class p s) (same_key k q e) (subst (λ x. IsZoneSet class k x) (same_Some t s is) fits)
-put_is class k t ch q s false e h fits is = h q s is
-
--- a set is put into a map
-pub put_map : (class : DNSClass) (k : RrKey) (s : SetValue) (m n : Sets) → IsZoneMap class m → IsZoneSet class k s → Puts k (Some s) m n → IsZoneMap class n
-put_map class k s m n old h puts = λ q t e. put_is class k s m q t (eq_by_cmp key_cmp k q) refl old h (sym (puts q) ∙ e)
-
-joined_some : (r : Record RData) (xs : List (Record RData)) → joined r xs ≢ []
-joined_some r [] e = absurd cc
-joined_some r (x ∷ xs) e = absurd cc
-
-pub joined_fits : (class : DNSClass) (k : RrKey) (r : Record RData) (s t : SetValue) → IsZoneSet class k s → t ≡ with_records s (joined r s.records) → IsZoneSet class k t
-joined_fits class k r s t h is = subst (λ x. IsZoneSet class k x) (sym is)
-    (record { own_key = h.own_key; own_class = h.own_class; filled = joined_some r s.records; distinct = distinct_joined r s.records h.distinct })
+abbrev Map : Type 0
+Map = BTreeMap RrKey SetValue
 
 -- no two records of a set that may be there have equal data
-pub distinct_there : (class : DNSClass) (k : RrKey) (m : Sets) (o : Option SetValue) → IsZoneMap class m → o ≡ tree.get key_cmp m k
+pub distinct_there : (class : DNSClass) (k : RrKey) (m : Map) (o : Option SetValue) → IsZoneMap class m
+    → o ≡ tree.get key_cmp m k
     → IfSome o (λ (s : SetValue). IsDistinct (on (λ (r : Record RData). r.rdata) same_data) s.records)
 distinct_there class k m (Some s) h e = (h k s (sym e)).distinct
 distinct_there class k m None h e = tt
 
--- the set of a key with a record
-fits_begun : (class : DNSClass) (r : Record RData) → IsZoneSet class (record_key r) (renewed_set class r None)
+none_distinct : Distinct []
 unfolding IsDistinct
-fits_begun class r = record { own_key = refl; own_class = refl; filled = λ e. absurd cc; distinct = distinct_joined r [] tt }
+none_distinct = tt
 
-renewed_fits : (class : DNSClass) (k : RrKey) (r : Record RData) (o : Option SetValue) → k ≡ record_key r → ((s : SetValue) → o ≡ Some s → IsZoneSet class k s) → IsZoneSet class k (renewed_set class r o)
-renewed_fits class k r (Some s) own fits = joined_fits class k r s _ (fits s refl) refl
-renewed_fits class k r None own fits = subst (λ q. IsZoneSet class q (renewed_set class r None)) (sym own) (fits_begun class r)
+-- ---- one set of a map is another then
 
-renewed_records : (class : DNSClass) (r : Record RData) (o : Option SetValue) → (renewed_set class r o).records ≡ joined r (records_in o)
-renewed_records class r (Some s) = refl
-renewed_records class r None = refl
+pub kept_map : (class : DNSClass) (k : RrKey) (xs : List (Record RData)) (m n : Map) → IsSetTo class k xs m n
+    → IsZoneMap class m → IsZoneMap class n
+kept_map class k xs m n h old = each_key (λ q. (s : SetValue) → tree.get key_cmp n q ≡ Some s → IsZoneSet class q s) k
+    h.fits (λ q e s f. old q s (sym (h.others q e) ∙ f))
 
-renewed_ttl : (class : DNSClass) (r : Record RData) (o : Option SetValue) → (renewed_set class r o).ttl ≡ last_ttl (renewed_set class r o).records
-renewed_ttl class r (Some s) = refl
-renewed_ttl class r None = refl
-
-module _ (class : DNSClass) (k : RrKey) (r : Record RData) (t : SetValue) (m mid n : Sets) (own : k ≡ record_key r) (old : IsZoneMap class m)
-    (is : t ≡ renewed_set class r (tree.get key_cmp m k)) (out : Puts k None m mid) (puts : Puts k (Some t) mid n) where
-  fits : IsZoneSet class k t
-  fits = subst (λ x. IsZoneSet class k x) (sym is) (renewed_fits class k r (tree.get key_cmp m k) own (old k))
-
-  pub set_renewed : IsSetTo class k (joined r (records_at m k)) m n
-  set_renewed = record {
-    set = Some t;
-    records = ap (λ (x : SetValue). x.records) is ∙ renewed_records class r (tree.get key_cmp m k);
-    fits = λ x f. subst (λ y. IsZoneSet class k y) (same_Some t x f) fits;
-    ttl = λ x f. inr (subst (λ (y : SetValue). y.ttl ≡ last_ttl y.records) (sym is ∙ same_Some t x f) (renewed_ttl class r (tree.get key_cmp m k)));
-    puts = puts_again k None (Some t) m mid n out puts;
+module _ (class : DNSClass) (k : RrKey) (m n : Map) where
+  -- none
+  pub set_out : Sets k None m n → IsSetTo class k [] m n
+  set_out puts = record {
+    records = ap records_in (put_here k None m n puts);
+    fits = λ s e. absurd (none-some s (sym (put_here k None m n puts) ∙ e));
+    ttl = λ s e. absurd (none-some s (sym (put_here k None m n puts) ∙ e));
+    others = put_beside k None m n puts;
   }
 
-  pub map_renewed : IsZoneMap class n
-  map_renewed = put_map class k t m n old fits (puts_again k None (Some t) m mid n out puts)
+  pub map_out : Sets k None m n → IsZoneMap class m → IsZoneMap class n
+  map_out puts = kept_map class k [] m n (set_out puts)
 
--- the zone has the records of a set
-pub held_as : (k q : RrKey) (f : List (Record RData) → List (Record RData)) (z old : HeldZone) (n : Sets) → k ≡ q → z ≡ old → IsSetTo z.class k (f (records_at z.sets k)) z.sets n
-    → HoldsAt q (f (records_at old.sets q)) old (record z { sets = n })
-held_as k q f z old n own is h = subst (λ (j : RrKey). HoldsAt j (f (records_at old.sets j)) old (record z { sets = n })) own
-    (subst (λ (y : HeldZone). HoldsAt k (f (records_at y.sets k)) y (record z { sets = n })) is (n, refl, h))
+  -- none, where no records are left
+  pub none_left : (rs : List (Record RData)) (s t : SetValue) → tree.get key_cmp m k ≡ Some s → t ≡ without_data rs s
+      → t.records ≡ [] → Sets k None m n → IsSetTo class k (without rs (records_at m k)) m n
+  none_left rs s t e is none puts = subst (λ xs. IsSetTo class k xs m n) (sym none
+      ∙ ap (λ (x : SetValue). x.records) is ∙ left (list_any (has_data_of_one rs) s.records) refl
+      ∙ ap (λ o. without rs (records_in o)) (sym e)) (set_out puts) where
+        left : (b : Bool) → list_any (has_data_of_one rs) s.records ≡ b
+            → (cond b (with_records s (without rs s.records)) s).records ≡ without rs s.records
+        left true some = refl
+        left false none = sym (without_none rs s.records none)
 
--- sets are taken out one after the other
-pub none_lacks : (z : HeldZone) → LacksAll [] z z
-none_lacks z = (z.sets, refl, λ q. refl)
+  -- t, which is put where a set was taken out
+  module _ (mid : Map) (t : SetValue) (out : Sets k None m mid) (puts : Sets k (Some t) mid n) where
+    pub set_put : (xs : List (Record RData)) → t.records ≡ xs → IsZoneSet class k t
+        → (tree.get key_cmp m k ≡ Some t) ⊎ (t.ttl ≡ last_ttl t.records) → IsSetTo class k xs m n
+    set_put xs is fits ttl = record {
+      records = ap records_in (put_here k (Some t) mid n puts) ∙ is;
+      fits = λ s e. subst (λ x. IsZoneSet class k x) (same s e) fits;
+      ttl = λ s e. subst (λ (x : SetValue). (tree.get key_cmp m k ≡ Some x) ⊎ (x.ttl ≡ last_ttl x.records))
+          (same s e) ttl;
+      others = λ q e. put_beside k (Some t) mid n puts q e ∙ put_beside k None m mid out q e;
+    } where
+      same : (s : SetValue) → tree.get key_cmp n k ≡ Some s → t ≡ s
+      same s e = same_Some t s (sym (put_here k (Some t) mid n puts) ∙ e)
 
-any_last : (k q : RrKey) (ks : List RrKey) → list_any (λ x. eq_by_cmp key_cmp x q) (ks ++ k ∷ []) ≡ (list_any (λ x. eq_by_cmp key_cmp x q) ks || eq_by_cmp key_cmp k q)
-any_last k q [] = or_false (eq_by_cmp key_cmp k q) where
-  or_false : (b : Bool) → (b || false) ≡ b
-  or_false true = refl
-  or_false false = refl
-any_last k q (x ∷ ks) = ap (λ b. eq_by_cmp key_cmp x q || b) (any_last k q ks) ∙ sym (or_again (eq_by_cmp key_cmp x q) (list_any (λ x. eq_by_cmp key_cmp x q) ks) (eq_by_cmp key_cmp k q)) where
-  or_again : (a b c : Bool) → ((a || b) || c) ≡ (a || (b || c))
-  or_again true b c = refl
-  or_again false b c = refl
+    -- the set with a record
+    pub set_renewed : (r : Record RData) → k ≡ record_key r → IsZoneMap class m
+        → t ≡ renewed_set class r (tree.get key_cmp m k) → IsSetTo class k (joined r (records_at m k)) m n
+    set_renewed r own old is = set_put _ (ap (λ (x : SetValue). x.records) is ∙ records (tree.get key_cmp m k))
+        (subst (λ x. IsZoneSet class k x) (sym is) (fits (tree.get key_cmp m k) (old k)))
+        (inr (subst (λ (x : SetValue). x.ttl ≡ last_ttl x.records) (sym is) (ttl (tree.get key_cmp m k)))) where
+          records : (o : Option SetValue) → (renewed_set class r o).records ≡ joined r (records_in o)
+          records (Some s) = refl
+          records None = refl
 
-both_out : (a b : Bool) (o : Option SetValue) → cond b None (cond a None o) ≡ cond (a || b) None o
-both_out true true o = refl
-both_out true false o = refl
-both_out false b o = refl
+          ttl : (o : Option SetValue) → (renewed_set class r o).ttl ≡ last_ttl (renewed_set class r o).records
+          ttl (Some s) = refl
+          ttl None = refl
 
-pub lacks_more : (k : RrKey) (ks : List RrKey) (old mid new : HeldZone) → LacksAll ks old mid → Lacks k mid new → LacksAll (ks ++ k ∷ []) old new
-lacks_more k ks old mid new first next = chain (subst (λ (z : HeldZone). Lacks k z new) first.1 next) where
-  chain : Lacks k (record old { sets = first.0 }) new → LacksAll (ks ++ k ∷ []) old new
-  chain h = (
-    h.0,
-    h.1,
-    λ q. h.2 q ∙ ap (cond (eq_by_cmp key_cmp k q) None) (first.2 q) ∙ both_out (list_any (λ x. eq_by_cmp key_cmp x q) ks) (eq_by_cmp key_cmp k q) (tree.get key_cmp old.sets q)
-        ∙ ap (λ b. cond b None (tree.get key_cmp old.sets q)) (sym (any_last k q ks)),
-  )
+          some : (xs : List (Record RData)) → joined r xs ≢ []
+          some [] e = absurd cc
+          some (x ∷ xs) e = absurd cc
 
--- those that pass a test
-module _ (p : RrKey → Bool) (k : RrKey) (ks : List RrKey) (old mid new : HeldZone) where
-  last_is : (b : Bool) → p k ≡ b → filter p (ks ++ k ∷ []) ≡ filter p ks ++ cond b (k ∷ []) []
-  last_is b e = filter-append p ks (k ∷ []) ∙ ap (λ c. filter p ks ++ cond c (k ∷ []) []) e
+          fits : (o : Option SetValue) → ((s : SetValue) → o ≡ Some s → IsZoneSet class k s)
+              → IsZoneSet class k (renewed_set class r o)
+          fits (Some s) h = record {
+            own_key = (h s refl).own_key;
+            own_class = (h s refl).own_class;
+            filled = some s.records;
+            distinct = distinct_joined r s.records (h s refl).distinct;
+          }
+          fits None h = record {
+            own_key = sym own;
+            own_class = refl;
+            filled = some [];
+            distinct = distinct_joined r [] none_distinct;
+          }
 
-  pub free_more : p k ≡ true → LacksAll (filter p ks) old mid → Lacks k mid new → LacksAll (filter p (ks ++ k ∷ [])) old new
-  free_more free first next = subst (λ xs. LacksAll xs old new) (sym (last_is true free)) (lacks_more k (filter p ks) old mid new first next)
+    -- the set without the data of some records, where some are left
+    pub set_left : (rs : List (Record RData)) (s : SetValue) → IsZoneSet class k s → tree.get key_cmp m k ≡ Some s
+        → t ≡ without_data rs s → t.records ≢ [] → IsSetTo class k (without rs (records_at m k)) m n
+    set_left rs s old e is full = subst (λ xs. IsSetTo class k (without rs xs) m n) (sym (ap records_in e))
+        (by (list_any (has_data_of_one rs) s.records) refl is) where
+          by : (b : Bool) → list_any (has_data_of_one rs) s.records ≡ b
+              → t ≡ cond b (with_records s (without rs s.records)) s
+              → IsSetTo class k (without rs s.records) m n
+          by true some f = set_put _ (ap (λ (x : SetValue). x.records) f) (record {
+            own_key = ap set_key f ∙ old.own_key;
+            own_class = ap (λ (x : SetValue). x.dns_class) f ∙ old.own_class;
+            filled = full;
+            distinct = subst (λ (x : SetValue). Distinct x.records) (sym f)
+                (distinct_without rs s.records old.distinct);
+          }) (inr (subst (λ (x : SetValue). x.ttl ≡ last_ttl x.records) (sym f) refl))
+          by false none f = set_put _ (ap (λ (x : SetValue). x.records) f ∙ sym (without_none rs s.records none))
+              (subst (λ x. IsZoneSet class k x) (sym f) old) (inl (e ∙ ap Some (sym f)))
 
-  pub free_none : p k ≡ false → LacksAll (filter p ks) old mid → LacksAll (filter p (ks ++ k ∷ [])) old mid
-  free_none kept first = subst (λ xs. LacksAll xs old mid) (sym (last_is false kept ∙ append-nil (filter p ks))) first
+-- one after the other
+pub set_again : (class : DNSClass) (k : RrKey) (xs : List (Record RData)) (m n p : Map) → IsSetTo class k [] m n
+    → IsSetTo class k xs n p → IsSetTo class k xs m p
+set_again class k xs m n p first next = record {
+  records = next.records;
+  fits = next.fits;
+  ttl = λ s e. from s (next.ttl s e);
+  others = λ q e. next.others q e ∙ first.others q e;
+} where
+  from : (s : SetValue) → (tree.get key_cmp n k ≡ Some s) ⊎ (s.ttl ≡ last_ttl s.records)
+      → (tree.get key_cmp m k ≡ Some s) ⊎ (s.ttl ≡ last_ttl s.records)
+  from s (inl e) = absurd ((first.fits s e).filled (sym (ap records_in e) ∙ first.records))
+  from s (inr t) = inr t
 
-pub both_filters : (p q : RrKey → Bool) (ks : List RrKey) → filter p (filter q ks) ≡ filter (λ k. q k && p k) ks
-both_filters p q [] = refl
-both_filters p q (k ∷ ks) = step (q k) ∙ ap (λ xs. cond (q k && p k) (k ∷ xs) xs) (both_filters p q ks) where
-  step : (b : Bool) → filter p (cond b (k ∷ filter q ks) (filter q ks)) ≡ cond (b && p k) (k ∷ filter p (filter q ks)) (filter p (filter q ks))
-  step true = refl
-  step false = refl
+-- ---- so of a zone
+
+-- one change after the other
+pub sets_then : (R S T : HeldZone → Map → Type 0) (old mid new : HeldZone) → HasSets R old mid → HasSets S mid new
+    → (R old mid.sets → S (record old { sets = mid.sets }) new.sets → T old new.sets) → HasSets T old new
+sets_then R S T old mid new first next both = record {
+  rest = next.rest ∙ ap (λ (z : HeldZone). record z { sets = new.sets }) first.rest;
+  holds = both first.holds (subst (λ (z : HeldZone). S z new.sets) first.rest next.holds);
+}
+
+-- more updates
+pub updated_more : (rs ss : List (Record RData)) (old mid new : HeldZone) → IsUpdated rs old mid → IsUpdated ss mid new
+    → IsUpdated (rs ++ ss) old new
+updated_more rs ss old mid new first next = sets_then _ _ _ old mid new first next (λ f g is_map.
+    more_after old.origin old.class rs ss old.sets mid.sets new.sets is_map (f is_map)
+    (g (map_after old.origin old.class rs old.sets mid.sets is_map (f is_map))))
+
+pub none_updated : (z : HeldZone) → IsUpdated [] z z
+none_updated z = record {
+  rest = refl;
+  holds = λ h q. record { fits = h q; exact = refl; source = λ s e. inl e };
+}
+
+-- one that changes nothing, or a set
+pub stays_so : (z : HeldZone) (r : Record RData) (F : List (Record RData) → List (Record RData)) (may : Bool)
+    → Changes z.origin z.class z.sets r F may → may ≡ false → IsUpdated (r ∷ []) z z
+stays_so z r F may change kept = record {
+  rest = refl;
+  holds = λ h. stays z.origin z.class z.sets r h F may change kept;
+}
+
+pub moves_so : (old new : HeldZone) (r : Record RData) (F : List (Record RData) → List (Record RData)) (may : Bool)
+    → Changes old.origin old.class old.sets r F may → may ≡ true
+    → HoldsAt (record_key r) (F (records_at old.sets (record_key r))) old new → IsUpdated (r ∷ []) old new
+moves_so old new r F may change free held = record {
+  rest = held.rest;
+  holds = λ h. moves old.origin old.class old.sets r h F may new.sets change free held.holds;
+}
 
 -- a record stands alone where a set was taken out
-pub alone : (k : RrKey) (r : Record RData) (old mid new : HeldZone) → Lacks k old mid → HoldsAt k (joined r (records_at mid.sets k)) mid new → HoldsAt k (r ∷ []) old new
-alone k r old mid new first next = put_back k (r ∷ []) old mid new first (subst (λ xs. HoldsAt k (joined r xs) mid new) none next) where
-  none : records_at mid.sets k ≡ []
-  none = ap (λ (z : HeldZone). records_at z.sets k) first.1 ∙ ap records_in (taken_out old.sets first.0 k first.2)
+pub alone : (k : RrKey) (r : Record RData) (old mid new : HeldZone) → HoldsAt k [] old mid
+    → HoldsAt k (joined r (records_at mid.sets k)) mid new → HoldsAt k (r ∷ []) old new
+alone k r old mid new first next = sets_then _ _ _ old mid new first next (λ f g.
+    set_again old.class k (r ∷ []) old.sets mid.sets new.sets f
+    (subst (λ xs. IsSetTo old.class k (joined r xs) mid.sets new.sets) f.records g))
+
+-- the zone has the records of a set
+pub held_as : (k q : RrKey) (f : List (Record RData) → List (Record RData)) (z old : HeldZone) (n : Map) → k ≡ q
+    → z ≡ old → IsSetTo z.class k (f (records_at z.sets k)) z.sets n
+    → HoldsAt q (f (records_at old.sets q)) old (record z { sets = n })
+held_as k q f z old n own is h = subst (λ (j : RrKey). HoldsAt j (f (records_at old.sets j)) old
+    (record z { sets = n })) own
+    (subst (λ (y : HeldZone). HoldsAt k (f (records_at y.sets k)) y (record z { sets = n })) is
+    (record { rest = refl; holds = h }))
+
+-- the new zone is the old one without the sets of an owner under these keys, but for those that stay
+abbrev pub Clears : NameValue → List RrKey → HeldZone → HeldZone → Type 0
+Clears owner ks = HasSets (λ z sets. (q : RrKey) → tree.get key_cmp sets q ≡ cond (has_key q ks)
+    (cond (is_guarded (zone_held z) owner q.record_type) (tree.get key_cmp z.sets q) None) (tree.get key_cmp z.sets q))
+
+module _ (owner : NameValue) (k : RrKey) (ks : List RrKey) (old mid : HeldZone) (first : Clears owner ks old mid) where
+  abbrev left : RrKey → Option SetValue
+  left q = cond (is_guarded (zone_held old) owner q.record_type) (tree.get key_cmp old.sets q) None
+
+  pub clears_more : (new : HeldZone) → is_guarded (zone_held old) owner k.record_type ≡ false → HoldsAt k [] mid new
+      → Clears owner (ks ++ k ∷ []) old new
+  clears_more new free next = sets_then _ _ _ old mid new first next (λ f g.
+      one_more left (λ q. tree.get key_cmp old.sets q) k ks mid.sets f new.sets
+      (gone g (tree.get key_cmp new.sets k) refl
+      ∙ ap (λ b. cond b (tree.get key_cmp old.sets k) None) (sym free)) g.others) where
+        gone : IsSetTo old.class k [] mid.sets new.sets → (o : Option SetValue) → tree.get key_cmp new.sets k ≡ o
+            → tree.get key_cmp new.sets k ≡ None
+        gone g None e = e
+        gone g (Some s) e = absurd ((g.fits s e).filled (sym (ap records_in e) ∙ g.records))
+
+  pub clears_same : is_guarded (zone_held old) owner k.record_type ≡ true → Clears owner (ks ++ k ∷ []) old mid
+  clears_same guarded = record {
+    rest = first.rest;
+    holds = same_more left (λ q. tree.get key_cmp old.sets q) k ks mid.sets first.holds
+        (ap (λ b. cond b (tree.get key_cmp old.sets k) None) guarded);
+  }
+
+pub cleared : (owner : NameValue) (old new : HeldZone)
+    → Clears owner (filter (λ k. is_owned owner k) (tree.keys old.sets)) old new → (q : RrKey)
+    → tree.get key_cmp new.sets q
+    ≡ cond (is_owned owner q && not (is_guarded (zone_held old) owner q.record_type)) None
+    (tree.get key_cmp old.sets q)
+cleared owner old new h q = h.holds q
+    ∙ ap (λ b. cond b (cond (is_guarded (zone_held old) owner q.record_type) (tree.get key_cmp old.sets q) None)
+    (tree.get key_cmp old.sets q)) (owned_key owner q old.sets)
+    ∙ by (is_owned owner q) (is_guarded (zone_held old) owner q.record_type) (tree.get key_cmp old.sets q) where
+      by : (o g : Bool) (v : Option SetValue)
+          → cond (o && is_some v) (cond g v None) v ≡ cond (o && not g) None v
+      by true true (Some s) = refl
+      by true true None = refl
+      by true false (Some s) = refl
+      by true false None = refl
+      by false g v = refl

@@ -1,5 +1,5 @@
 -- What a deletion of sets makes of a zone.
-use Rattle.base.proofs.KeyLemmas.{key_cmp-exact, key_cmp-total}
+use Rattle.base.proofs.names.KeyLemmas.{key_cmp-exact, key_cmp-total}
 use Rattle.base.specs.RrKey.{key_cmp}
 use Rattle.base.specs.declared.rr_key.RrKey.{RrKey}
 use Rattle.base_data.specs.declared.rdata.RData.{RData}
@@ -26,16 +26,24 @@ flipped false o = refl
 
 module _ (z : Zone) (r : Record RData) where
   deleted_at : (y g : Bool)
-      → record z { sets = fin.retain_keys z.sets (λ k. not (cond y (is_owned r.name k && not (is_guarded z r.name k.record_type)) (not g && is_under r k))) }
+      → record z {
+        sets = fin.retain_keys z.sets
+            (λ k. not (cond y (is_owned r.name k && not (is_guarded z r.name k.record_type)) (not g && is_under r k)));
+      }
       ≡ cond y (less_name z r.name) (cond g z (less_key z (record_key r)))
-  deleted_at true g = ap (λ (p : RrKey → Bool). record z { sets = fin.retain_keys z.sets p }) (λ i k. spared (is_owned r.name k) (is_guarded z r.name k.record_type) i)
-  deleted_at false true = ap (λ (m : FinMap key_cmp (List Datum)). record z { sets = m }) (same_sets _ _ (λ q. fin.get-retain_keys z.sets (λ k. true) q (λ x e. refl)))
+  deleted_at true g = ap (λ (p : RrKey → Bool). record z { sets = fin.retain_keys z.sets p })
+      (λ i k. spared (is_owned r.name k) (is_guarded z r.name k.record_type) i)
+  deleted_at false true = ap (λ (m : FinMap key_cmp (List Datum)). record z { sets = m })
+      (same_sets _ _ (λ q. fin.get-retain_keys z.sets (λ k. true) q (λ x e. refl)))
   deleted_at false false = ap (λ (m : FinMap key_cmp (List Datum)). record z { sets = m }) (same_sets _ _ (λ q.
-      fin.get-retain_keys z.sets (λ k. not (is_under r k)) q (λ x e. ap (λ k. not (is_under r k)) (sym (key_cmp-exact q x e)))
-      ∙ flipped (is_under r q) (fin.get z.sets q) ∙ ap (λ b. cond b None (fin.get z.sets q)) ((eq_by_cmp_equiv key_cmp-total).symm (record_key r) q)
+      fin.get-retain_keys z.sets (λ k. not (is_under r k)) q
+      (λ x e. ap (λ k. not (is_under r k)) (sym (key_cmp-exact q x e)))
+      ∙ flipped (is_under r q) (fin.get z.sets q)
+      ∙ ap (λ b. cond b None (fin.get z.sets q)) ((eq_by_cmp_equiv key_cmp-total).symm (record_key r) q)
       ∙ sym (get_with_set z.sets (record_key r) [] q)))
 
   -- the set, or all of the owner; at the origin SOA and NS stay
   pub deleted_is : record z { sets = fin.retain_keys z.sets (λ k. not (goes_with z r k)) }
-      ≡ cond (is_any (type_of_record r)) (less_name z r.name) (cond (is_guarded z r.name (type_of_record r)) z (less_key z (record_key r)))
+      ≡ cond (is_any (type_of_record r)) (less_name z r.name)
+      (cond (is_guarded z r.name (type_of_record r)) z (less_key z (record_key r)))
   deleted_is = deleted_at (is_any (type_of_record r)) (is_guarded z r.name (type_of_record r))

@@ -1,43 +1,36 @@
 -- The records under a key follow the data of the zone.
-use Rattle.base.proofs.KeyLemmas.{key_cmp-exact, key_cmp-total}
+use Rattle.base.proofs.names.KeyLemmas.{key_cmp-exact}
 use Rattle.base.specs.RrKey.{key_cmp}
 use Rattle.base.specs.declared.rr_key.RrKey.{RrKey}
 use Rattle.base_data.specs.declared.rdata.RData.{RData}
 use Rattle.op.specs.declared.response_code.ResponseCode.TheVariants.{NotImp}
-use Rattle.op_use.proofs.AppliedData.{joined_data, parted_data}
-use Rattle.op_use.proofs.ZoneSteps.{get_with_set, kept, same_key}
+use Rattle.op_use.proofs.AppliedData.{joined_data, without_data_of}
+use Rattle.op_use.proofs.ZoneSteps.{at_after_put, same_key}
 use Rattle.op_use.specs.AppliedMeaning.{RecordsHoldTheData}
-use Rattle.op_use.specs.AppliedRecords.{after_by, after_update, parted, records_after, records_answered}
+use Rattle.op_use.specs.AppliedRecords.{after_by, after_update, records_after, records_answered}
 use Rattle.op_use.specs.Applying.{is_all_supported}
 use Rattle.op_use.specs.NamedChanges.{datum_of}
-use Rattle.op_use.specs.Server.{StepCode, OfAny, OfNone, OfNothing, OfZone, Sections, Use as UseValue, added, answer, fault, goes_with, is_cname, is_needed, removed, is_under}
+use Rattle.op_use.specs.Server.{StepCode, OfAny, OfNone, OfNothing, OfZone, Sections, Use as UseValue, added, answer}
+use Rattle.op_use.specs.Server.{fault, goes_with, is_cname, is_needed, removed, is_under}
 use Rattle.rr.specs.Record.{record_key, type_of_record}
 use Rattle.op_use.specs.Server.{update, update_by, use_of}
 use Rattle.op_use.specs.Zone.{Datum, Zone, at, put}
 use Rattle.rr.specs.SetChanges.{joined}
+use Rattle.rr.specs.SetUpdates.{without}
 use Rattle.rr.specs.declared.record.Record.{Record}
 use Rattle.std.proofs.Common.{ap, refl, sym, ◌∙◌}
-use Rattle.std.specs.Cmp.{eq_by_cmp_equiv}
 use Rattle.std.specs.FinMap as fin
 use Rattle.std.specs.List.{fold}
 use Rattle.std.specs.Ordering.{eq_by_cmp}
-use Rattle.std.specs.Prelude.{Bool, List, None, Option, Some, [], cond, false, map, not, true, unwrap_or, ◌&&◌, ◌∷◌, ◌≡◌}
-
-unkept : (b : Bool) (ds : List Datum) (o : Option (List Datum)) → unwrap_or (cond b (kept ds) o) [] ≡ cond b ds (unwrap_or o [])
-unkept true [] o = refl
-unkept true (d ∷ ds) o = refl
-unkept false ds o = refl
-
-at_after_put : (z : Zone) (q k : RrKey) (ds : List Datum) → at (put z q ds) k ≡ cond (eq_by_cmp key_cmp q k) ds (at z k)
-at_after_put z q k ds =
-    ap (λ o. unwrap_or o []) (get_with_set z.sets q ds k) ∙ unkept (eq_by_cmp key_cmp k q) ds (fin.get z.sets k)
-    ∙ ap (λ b. cond b ds (at z k)) ((eq_by_cmp_equiv key_cmp-total).symm k q)
+use Rattle.std.specs.Prelude.{Bool, List, None, Some, [], cond, false, map, not, true, unwrap_or, ◌&&◌, ◌∷◌}
+use Rattle.std.specs.Prelude.{◌≡◌}
 
 module _ (z : Zone) (r : Record RData) (k : RrKey) (xs : List (Record RData)) (same : at z k ≡ map datum_of xs) where
   -- a change of the record's set
   module _ (F : List (Record RData) → List (Record RData)) (G : List Datum → List Datum)
       (each : (ys : List (Record RData)) → map datum_of (F ys) ≡ G (map datum_of ys)) where
-    set_follows : (b : Bool) → eq_by_cmp key_cmp (record_key r) k ≡ b → cond b (G (at z (record_key r))) (at z k) ≡ map datum_of (cond b (F xs) xs)
+    set_follows : (b : Bool) → eq_by_cmp key_cmp (record_key r) k ≡ b
+        → cond b (G (at z (record_key r))) (at z k) ≡ map datum_of (cond b (F xs) xs)
     set_follows true t = ap (λ q. G (at z q)) (same_key (record_key r) k t) ∙ ap G same ∙ sym (each xs)
     set_follows false t = same
 
@@ -53,9 +46,9 @@ module _ (z : Zone) (r : Record RData) (k : RrKey) (xs : List (Record RData)) (s
   added_follows false a false = put_follows (joined r) (λ ds. added ds r) (joined_data r)
 
   removed_follows : (n : Bool) → at (cond n z (put z (record_key r) (removed (at z (record_key r)) r))) k
-      ≡ map datum_of (cond (not n && is_under r k) (parted r xs) xs)
+      ≡ map datum_of (cond (not n && is_under r k) (without (r ∷ []) xs) xs)
   removed_follows true = same
-  removed_follows false = put_follows (parted r) (λ ds. removed ds r) (parted_data r)
+  removed_follows false = put_follows (without (r ∷ [])) (λ ds. removed ds r) (without_data_of r)
 
   gone : (b : Bool) → unwrap_or (cond (not b) (fin.get z.sets k) None) [] ≡ map datum_of (cond b [] xs)
   gone true = refl
@@ -64,18 +57,21 @@ module _ (z : Zone) (r : Record RData) (k : RrKey) (xs : List (Record RData)) (s
   follows_by : (how : UseValue) → at (update_by how z r) k ≡ map datum_of (after_by how z r k xs)
   follows_by OfZone = added_follows (is_cname (type_of_record r)) _ _
   follows_by OfAny = ap (λ o. unwrap_or o [])
-      (fin.get-retain_keys z.sets (λ q. not (goes_with z r q)) k (λ q e. ap (λ p. not (goes_with z r p)) (sym (key_cmp-exact k q e)))) ∙ gone (goes_with z r k)
+      (fin.get-retain_keys z.sets (λ q. not (goes_with z r q)) k
+      (λ q e. ap (λ p. not (goes_with z r p)) (sym (key_cmp-exact k q e)))) ∙ gone (goes_with z r k)
   follows_by OfNone = removed_follows (is_needed z r)
   follows_by OfNothing = same
 
-all_follow : (rs : List (Record RData)) (z : Zone) (k : RrKey) (xs : List (Record RData)) → at z k ≡ map datum_of xs
+pub all_follow : (rs : List (Record RData)) (z : Zone) (k : RrKey) (xs : List (Record RData)) → at z k ≡ map datum_of xs
     → at (fold update z rs) k ≡ map datum_of (records_after z rs k xs)
 all_follow [] z k xs same = same
-all_follow (r ∷ rs) z k xs same = all_follow rs (update z r) k (after_update z r k xs) (follows_by z r k xs same (use_of z.class r.dns_class))
+all_follow (r ∷ rs) z k xs same = all_follow rs (update z r) k (after_update z r k xs)
+    (follows_by z r k xs same (use_of z.class r.dns_class))
 
 module _ (z : Zone) (m : Sections) (k : RrKey) (xs : List (Record RData)) (same : at z k ≡ map datum_of xs) where
   outcome_follows : (served : Bool) (found : StepCode)
-      → at (cond served (answer z m.updates found) (NotImp, z)).1 k ≡ map datum_of (cond served (records_answered z m.updates found k xs) xs)
+      → at (cond served (answer z m.updates found) (NotImp, z)).1 k ≡ map datum_of
+      (cond served (records_answered z m.updates found k xs) xs)
   outcome_follows true (Some code) = same
   outcome_follows true None = all_follow m.updates z k xs same
   outcome_follows false found = same

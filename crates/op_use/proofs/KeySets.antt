@@ -1,29 +1,52 @@
 -- Which keys are in a map, and what a map has after entries are put or taken out one after the other.
-use Rattle.base.proofs.KeyLemmas.{key_cmp-total}
+use Rattle.base.proofs.names.KeyLemmas.{key_cmp-total}
 use Rattle.base.specs.RrKey.{key_cmp}
 use Rattle.base.specs.declared.rr_key.RrKey.{RrKey}
-use Rattle.op_use.proofs.ZoneSteps.{same_key}
+use Rattle.op_use.proofs.ZoneSteps.{same_key, tied}
 use Rattle.op_use.specs.MapUpdates.{has_key}
-use Rattle.std.proofs.Common.{ap, refl, sym, ◌∙◌}
-use Rattle.std.proofs.Math.Bool.{or-false}
+use Rattle.op_use.specs.Zone.{is_owned}
+use Rattle.base.specs.names.Labels.{NameValue}
+use Rattle.std.proofs.Common.{ap, arith, refl, subst, sym, ◌∙◌}
+use Rattle.std.proofs.Math.Bool.{or-false, or-true}
+use Rattle.std.proofs.lemmas.Bool.{true≢false}
 use Rattle.std.proofs.lemmas.List.Folds.{list_any-append}
+use Rattle.std.proofs.lemmas.List.{take_more}
+use Rattle.std.proofs.lemmas.Map.Views.{any-filter_same}
 use Rattle.std.specs.BTreeMap as tree
 use Rattle.std.specs.BTreeMap.{BTreeMap, is_at}
 use Rattle.std.specs.Cmp.{eq_by_cmp_equiv}
+use Rattle.std.specs.List.{filter}
 use Rattle.std.specs.Map.{keys_of, lookup}
 use Rattle.std.specs.Ordering.{eq_by_cmp}
-use Rattle.std.specs.Prelude.{Bool, List, None, Option, Some, [], cond, false, is_some, true, ◌&&◌, ◌++◌, ◌||◌, ◌∷◌, ◌≡◌}
+use Rattle.std.specs.Prelude.{Bool, List, None, Option, Some, [], cond, false, is_some, length, slice_index_or, take}
+use Rattle.std.specs.Prelude.{true}
+use Rattle.std.specs.Prelude.{ℕ, ◌&&◌, ◌++◌, ◌+◌, ◌<◌, ◌||◌, ◌∷◌, ◌≡◌}
 
-or_right : (b : Bool) → (b || true) ≡ true
-or_right true = refl
-or_right false = refl
+-- what holds of a key and of all others
+pub each_key : (P : RrKey → Type 0) (k : RrKey) → P k → ((q : RrKey) → eq_by_cmp key_cmp k q ≡ false → P q)
+    → (q : RrKey) → P q
+each_key P k here others q = by (eq_by_cmp key_cmp k q) refl where
+  by : (b : Bool) → eq_by_cmp key_cmp k q ≡ b → P q
+  by true e = subst P (same_key k q e) here
+  by false e = others q e
+
+-- the items so far and one more
+pub one_taken : {X : Type 0} (xs : List X) (i : ℕ) (x : X) → i < length xs → x ≡ slice_index_or xs i x
+    → take i xs ++ x ∷ [] ≡ take (i + 1) xs
+one_taken xs i x h e = ap (λ y. take i xs ++ y ∷ []) e ∙ sym (take_more xs i x h)
 
 -- one key more
-pub key_last : (k q : RrKey) (ks : List RrKey) → has_key q (ks ++ k ∷ []) ≡ (has_key q ks || eq_by_cmp key_cmp k q)
-key_last k q ks = list_any-append (λ x. eq_by_cmp key_cmp x q) ks (k ∷ []) ∙ ap (λ b. has_key q ks || b) (or-false (eq_by_cmp key_cmp k q))
+pub last_here : (k : RrKey) (ks : List RrKey) → has_key k (ks ++ k ∷ []) ≡ true
+last_here k ks = list_any-append (λ x. eq_by_cmp key_cmp x k) ks (k ∷ [])
+    ∙ ap (λ b. has_key k ks || (b || false)) (tied k) ∙ or-true (has_key k ks)
 
--- a key is in a map where something stands under it
+pub last_beside : (k q : RrKey) (ks : List RrKey) → eq_by_cmp key_cmp k q ≡ false
+    → has_key q (ks ++ k ∷ []) ≡ has_key q ks
+last_beside k q ks e = list_any-append (λ x. eq_by_cmp key_cmp x q) ks (k ∷ [])
+    ∙ ap (λ b. has_key q ks || (b || false)) e ∙ or-false (has_key q ks)
+
 module _ {X : Type 0} where
+  -- a key is in a map where something stands under it
   found_at : (b : Bool) (x : X) (o : Option X) (c : Bool) → c ≡ is_some o → (b || c) ≡ is_some (cond b (Some x) o)
   found_at true x o c h = refl
   found_at false x o c h = h
@@ -36,46 +59,48 @@ module _ {X : Type 0} where
   pub key_is_in : (q : RrKey) (m : BTreeMap RrKey X) → has_key q (tree.keys m) ≡ is_some (tree.get key_cmp m q)
   key_is_in q m = key_in q m.entries
 
-  -- the new map has o under a key, and else what the old one has
-  abbrev pub Sets : RrKey → Option X → BTreeMap RrKey X → BTreeMap RrKey X → Type 0
-  Sets k o old new = (q : RrKey) → tree.get key_cmp new q ≡ cond (eq_by_cmp key_cmp k q) o (tree.get key_cmp old q)
+  -- so is one of an owner's
+  pub owned_key : (owner : NameValue) (q : RrKey) (m : BTreeMap RrKey X)
+      → has_key q (filter (λ k. is_owned owner k) (tree.keys m)) ≡ (is_owned owner q && is_some (tree.get key_cmp m q))
+  owned_key owner q m = any-filter_same (λ k. eq_by_cmp key_cmp k q) (λ k. is_owned owner k) (is_owned owner q)
+      (λ k e. ap (λ x. is_owned owner x) (same_key k q e)) (tree.keys m)
+      ∙ ap (λ b. is_owned owner q && b) (key_is_in q m)
 
   pub none_in : (m : BTreeMap RrKey X) (q : RrKey) → m.entries ≡ [] → tree.get key_cmp m q ≡ None
   none_in m q none = ap (lookup (is_at (key_cmp q))) none
 
-  -- a map that is filled from another, key by key
-  fill_at : (k q : RrKey) (s : X) (o : Option X) (a b : Bool) → eq_by_cmp key_cmp k q ≡ b → (b ≡ true → Some s ≡ o) → cond b (Some s) (cond a o None) ≡ cond (a || b) o None
-  fill_at k q s o a true e here = here refl ∙ ap (λ c. cond c o None) (sym (or_right a))
-  fill_at k q s o a false e here = ap (λ c. cond c o None) (sym (or-false a))
+  pub none_more : (m : BTreeMap RrKey X) (q : RrKey) → (0 < length m.entries → false ≡ true)
+      → tree.get key_cmp m q ≡ None
+  none_more m q h = none_in m q (by m.entries h) where
+    by : (es : List (RrKey × X)) → (0 < length es → false ≡ true) → es ≡ []
+    by [] h = refl
+    by (e ∷ es) h = absurd (true≢false (sym (h (omega arith))))
 
-  pub filled_more : (k : RrKey) (s : X) (ks : List RrKey) (m old new : BTreeMap RrKey X) → tree.get key_cmp m k ≡ Some s → Sets k (Some s) old new
-      → ((q : RrKey) → tree.get key_cmp old q ≡ cond (has_key q ks) (tree.get key_cmp m q) None)
-      → (q : RrKey) → tree.get key_cmp new q ≡ cond (has_key q (ks ++ k ∷ [])) (tree.get key_cmp m q) None
-  filled_more k s ks m old new there puts so q = puts q ∙ ap (cond (eq_by_cmp key_cmp k q) (Some s)) (so q)
-      ∙ fill_at k q s (tree.get key_cmp m q) (has_key q ks) (eq_by_cmp key_cmp k q) refl (λ e. sym there ∙ ap (tree.get key_cmp m) (same_key k q e))
-      ∙ ap (λ b. cond b (tree.get key_cmp m q) None) (sym (key_last k q ks))
+  -- the new map has o under a key, and else what the old one has
+  abbrev pub Sets : RrKey → Option X → BTreeMap RrKey X → BTreeMap RrKey X → Type 0
+  Sets k o old new = (q : RrKey) → tree.get key_cmp new q ≡ cond (eq_by_cmp key_cmp k q) o (tree.get key_cmp old q)
 
-  leave_at : (q : RrKey) (o : Option X) (a b : Bool) → (b ≡ true → o ≡ None) → cond a o None ≡ cond (a || b) o None
-  leave_at q o true b none = refl
-  leave_at q o false true none = sym (none refl)
-  leave_at q o false false none = refl
+  module _ (k : RrKey) (o : Option X) (old new : BTreeMap RrKey X) (puts : Sets k o old new) where
+    pub put_here : tree.get key_cmp new k ≡ o
+    put_here = puts k ∙ ap (λ b. cond b o (tree.get key_cmp old k)) (tied k)
 
-  pub filled_none : (k : RrKey) (ks : List RrKey) (m old : BTreeMap RrKey X) → tree.get key_cmp m k ≡ None
-      → ((q : RrKey) → tree.get key_cmp old q ≡ cond (has_key q ks) (tree.get key_cmp m q) None)
-      → (q : RrKey) → tree.get key_cmp old q ≡ cond (has_key q (ks ++ k ∷ [])) (tree.get key_cmp m q) None
-  filled_none k ks m old none so q = so q
-      ∙ leave_at q (tree.get key_cmp m q) (has_key q ks) (eq_by_cmp key_cmp k q) (λ e. ap (tree.get key_cmp m) (sym (same_key k q e)) ∙ none)
-      ∙ ap (λ b. cond b (tree.get key_cmp m q) None) (sym (key_last k q ks))
+    pub put_beside : (q : RrKey) → eq_by_cmp key_cmp k q ≡ false → tree.get key_cmp new q ≡ tree.get key_cmp old q
+    put_beside q e = puts q ∙ ap (λ b. cond b o (tree.get key_cmp old q)) e
 
-  -- keys that are taken out of a map, one after the other
-  both_out : (a b : Bool) (o : Option X) → cond b None (cond a None o) ≡ cond (a || b) None o
-  both_out true true o = refl
-  both_out true false o = refl
-  both_out false b o = refl
+  -- a map that has F under the keys so far and else G, with one key more
+  module _ (F G : RrKey → Option X) (k : RrKey) (ks : List RrKey) (old : BTreeMap RrKey X)
+      (so : (q : RrKey) → tree.get key_cmp old q ≡ cond (has_key q ks) (F q) (G q)) where
+    pub one_more : (new : BTreeMap RrKey X) → tree.get key_cmp new k ≡ F k
+        → ((q : RrKey) → eq_by_cmp key_cmp k q ≡ false → tree.get key_cmp new q ≡ tree.get key_cmp old q)
+        → (q : RrKey) → tree.get key_cmp new q ≡ cond (has_key q (ks ++ k ∷ [])) (F q) (G q)
+    one_more new here beside = each_key (λ q. tree.get key_cmp new q ≡ cond (has_key q (ks ++ k ∷ [])) (F q) (G q)) k
+        (here ∙ ap (λ b. cond b (F k) (G k)) (sym (last_here k ks)))
+        (λ q e. beside q e ∙ so q ∙ ap (λ b. cond b (F q) (G q)) (sym (last_beside k q ks e)))
 
-  pub less_more : (k : RrKey) (ks : List RrKey) (old mid new : BTreeMap RrKey X) → Sets k None mid new
-      → ((q : RrKey) → tree.get key_cmp mid q ≡ cond (has_key q ks) None (tree.get key_cmp old q))
-      → (q : RrKey) → tree.get key_cmp new q ≡ cond (has_key q (ks ++ k ∷ [])) None (tree.get key_cmp old q)
-  less_more k ks old mid new puts so q = puts q ∙ ap (cond (eq_by_cmp key_cmp k q) None) (so q)
-      ∙ both_out (has_key q ks) (eq_by_cmp key_cmp k q) (tree.get key_cmp old q)
-      ∙ ap (λ b. cond b None (tree.get key_cmp old q)) (sym (key_last k q ks))
+    pub same_more : F k ≡ G k → (q : RrKey) → tree.get key_cmp old q ≡ cond (has_key q (ks ++ k ∷ [])) (F q) (G q)
+    same_more same = each_key (λ q. tree.get key_cmp old q ≡ cond (has_key q (ks ++ k ∷ [])) (F q) (G q)) k
+        (so k ∙ either (has_key k ks) ∙ ap (λ b. cond b (F k) (G k)) (sym (last_here k ks)))
+        (λ q e. so q ∙ ap (λ b. cond b (F q) (G q)) (sym (last_beside k q ks e))) where
+          either : (b : Bool) → cond b (F k) (G k) ≡ F k
+          either true = refl
+          either false = sym same

@@ -1,5 +1,5 @@
 -- A map to which updates may be applied is a zone.
-use Rattle.base.specs.Labels.{NameValue}
+use Rattle.base.specs.names.Labels.{NameValue}
 use Rattle.base.specs.RrKey.{key_cmp}
 use Rattle.base.specs.declared.dns_class.DNSClass.{DNSClass}
 use Rattle.base.specs.declared.rr_key.RrKey.{RrKey}
@@ -26,12 +26,14 @@ filled_in : (o : Option SetValue) → ((s : SetValue) → o ≡ Some s → s.rec
 filled_in None h = λ f. cc
 filled_in (Some s) h = not_empty s.records (h s refl)
 
-far_data : (x : Record RData) (xs : List (Record RData)) → AllByRecursion (λ (y : Record RData). same_data x.rdata y.rdata ≡ false) xs
+far_data : (x : Record RData) (xs : List (Record RData))
+    → AllByRecursion (λ (y : Record RData). same_data x.rdata y.rdata ≡ false) xs
     → AllByRecursion (λ (d : Datum). same_data x.rdata d.rdata ≡ false) (map datum_of xs)
 far_data x [] h = h
 far_data x (y ∷ ys) h = (h.0, far_data x ys h.1)
 
-distinct_data : (xs : List (Record RData)) → IsDistinct (on (λ (r : Record RData). r.rdata) same_data) xs → IsDistinct (on (λ (d : Datum). d.rdata) same_data) (map datum_of xs)
+distinct_data : (xs : List (Record RData)) → IsDistinct (on (λ (r : Record RData). r.rdata) same_data) xs
+    → IsDistinct (on (λ (d : Datum). d.rdata) same_data) (map datum_of xs)
 unfolding IsDistinct
 distinct_data [] h = h
 distinct_data (x ∷ xs) h = (far_data x xs h.0, distinct_data xs h.1)
@@ -42,8 +44,10 @@ unfolding IsDistinct
 kept_data class k None h = tt
 kept_data class k (Some s) h = distinct_data s.records (h s refl).distinct
 
-pub zone_is : (origin : NameValue) (class : DNSClass) (m : BTreeMap RrKey SetValue) → IsZoneMap class m → IsZone (zone_of_map origin class m)
+pub zone_is : (origin : NameValue) (class : DNSClass) (m : BTreeMap RrKey SetValue) → IsZoneMap class m
+    → IsZone (zone_of_map origin class m)
 zone_is origin class m old = record {
   filled = λ k f. filled_in (tree.get key_cmp m k) (λ s e. (old k s e).filled) (sym (get_zone origin class m k) ∙ f);
-  distinct = λ k. subst (λ ds. IsDistinct (on (λ (d : Datum). d.rdata) same_data) ds) (sym (data_at origin class m k)) (kept_data class k (tree.get key_cmp m k) (old k));
+  distinct = λ k. subst (λ ds. IsDistinct (on (λ (d : Datum). d.rdata) same_data) ds) (sym (data_at origin class m k))
+      (kept_data class k (tree.get key_cmp m k) (old k));
 }

@@ -11,8 +11,9 @@ use Rattle.std.specs.Ordering.{eq_by_cmp}
 use Rattle.std.specs.FinMap.{FinMap}
 use Rattle.base.specs.RrKey.{key_cmp}
 use Rattle.base.specs.declared.rr_key.RrKey.{RrKey}
-use Rattle.base.proofs.KeyLemmas.{key_cmp-exact, key_cmp-total}
-use Rattle.op_use.specs.ServerRows.{AddRows, BuilderRows, DeleteRecordRows, DeleteSetRows, OrderRows, PrerequisiteRows, PrescanRows, ZoneSectionRows, example, origin_sets, zone_with}
+use Rattle.base.proofs.names.KeyLemmas.{key_cmp-exact, key_cmp-total}
+use Rattle.op_use.specs.ServerRows.{AddRows, BuilderRows, DeleteRecordRows, DeleteSetRows, OrderRows, PrerequisiteRows}
+use Rattle.op_use.specs.ServerRows.{PrescanRows, ZoneSectionRows, example, origin_sets, zone_with}
 use Rattle.op_use.specs.Zone.{Datum}
 use Rattle.op_use.proofs.ZoneSteps.{same_key, same_sets, twice}
 
@@ -29,13 +30,15 @@ no_length (x ∷ es) e = absurd (omega arith)
 entries-empty : fin.entries no_sets ≡ []
 entries-empty = no_length _ (sym (fin.len-entries no_sets) ∙ fin.len-empty key_cmp (List Datum))
 
-entries-insert : (m : Sets) (k : RrKey) (xs : List Datum) → fin.entries (fin.insert m k xs) ≡ fin.put key_cmp k xs (fin.entries m)
+entries-insert : (m : Sets) (k : RrKey) (xs : List Datum)
+    → fin.entries (fin.insert m k xs) ≡ fin.put key_cmp k xs (fin.entries m)
 entries-insert = fin.entries-insert key_cmp-total
 
 get-empty : (q : RrKey) → fin.get no_sets q ≡ None
 get-empty = fin.get-empty key_cmp
 
-get-insert : (m : Sets) (k : RrKey) (xs : List Datum) (q : RrKey) → fin.get (fin.insert m k xs) q ≡ cond (eq_by_cmp key_cmp q k) (Some xs) (fin.get m q)
+get-insert : (m : Sets) (k : RrKey) (xs : List Datum) (q : RrKey)
+    → fin.get (fin.insert m k xs) q ≡ cond (eq_by_cmp key_cmp q k) (Some xs) (fin.get m q)
 get-insert = fin.get-insert key_cmp-total
 
 insert_again : (m : Sets) (k : RrKey) (xs ys : List Datum) → fin.insert (fin.insert m k xs) k ys ≡ fin.insert m k ys
@@ -59,10 +62,13 @@ none true = refl
 none false = refl
 
 retain_empty : (p : RrKey → Bool) → fin.retain_keys no_sets p ≡ no_sets
-retain_empty p = same_sets _ _ (λ q. retained no_sets p q ∙ ap (λ o. cond (p q) o None) (get-empty q) ∙ none (p q) ∙ sym (get-empty q))
+retain_empty p = same_sets _ _ (λ q. retained no_sets p q ∙ ap (λ o. cond (p q) o None) (get-empty q) ∙ none (p q)
+    ∙ sym (get-empty q))
 
-retained_at : (m : Sets) (p : RrKey → Bool) (j : RrKey) (xs : List Datum) (q : RrKey) (b c : Bool) → eq_by_cmp key_cmp q j ≡ b → p j ≡ c
-    → cond (p q) (cond b (Some xs) (fin.get m q)) None ≡ fin.get (cond c (fin.insert (fin.retain_keys m p) j xs) (fin.retain_keys m p)) q
+retained_at : (m : Sets) (p : RrKey → Bool) (j : RrKey) (xs : List Datum) (q : RrKey) (b c : Bool)
+    → eq_by_cmp key_cmp q j ≡ b → p j ≡ c
+    → cond (p q) (cond b (Some xs) (fin.get m q)) None ≡ fin.get
+    (cond c (fin.insert (fin.retain_keys m p) j xs) (fin.retain_keys m p)) q
 retained_at m p j xs q true true e f =
     let own : p q ≡ true = ap p (same_key q j e) ∙ f in
     rw (own, get-insert (fin.retain_keys m p) j xs q, e)
@@ -78,12 +84,31 @@ retain_insert m j xs p = same_sets _ _ (λ q. retained (fin.insert m j xs) p q
     ∙ ap (λ o. cond (p q) o None) (get-insert m j xs q) ∙ retained_at m p j xs q _ _ refl refl)
 
 -- what zones hold after puts and deletions
-ruleset zones = (get-empty, get-insert, entries-empty, entries-insert, insert_again, remove_is_retain, retain_empty, retain_insert)
+ruleset zones = (
+  get-empty,
+  get-insert,
+  entries-empty,
+  entries-insert,
+  insert_again,
+  remove_is_retain,
+  retain_empty,
+  retain_insert,
+)
 
 --- ---- the rows
 
 pub zone_section_rows : ZoneSectionRows
-zone_section_rows = record { none = refl; two = refl; no_soa = refl; other_zone = refl; part_of_zone = refl; other_class = refl; type_first = refl; own_zone = refl }
+zone_section_rows = record {
+  none = refl;
+  two = refl;
+  no_soa = refl;
+  other_zone = refl;
+  part_of_zone =
+      refl;
+  other_class = refl;
+  type_first = refl;
+  own_zone = refl;
+}
 
 pub prerequisite_rows : PrerequisiteRows
 prerequisite_rows = record {

@@ -1,22 +1,22 @@
 -- What the updates of the builders make of a map of record sets, where their bytes are read and applied.
 use Rattle.std.specs.BTreeMap.{BTreeMap}
-use Rattle.std.specs.Prelude.{Bool, List, map, not, true, ℕ, ◌&&◌, ◌≡◌, ◌≢◌, [], if◌then◌else◌}
-use Rattle.base.specs.Labels.{NameValue}
-use Rattle.base.specs.RrKey.{key_of}
+use Rattle.std.specs.Prelude.{Bool, List, map, ℕ, ◌≡◌}
+use Rattle.base.specs.names.Labels.{NameValue}
 use Rattle.base.specs.declared.dns_class.DNSClass.{DNSClass}
 use Rattle.base.specs.declared.rr_key.RrKey.{RrKey}
-use Rattle.base_data.specs.Kinds.{type_of_data}
 use Rattle.base_data.specs.declared.rdata.RData.{RData}
 use Rattle.op.specs.Cut.{IsCut, IsUncut}
 use Rattle.op.specs.Message.{IsMessageAt, MessageValue}
-use Rattle.op.specs.declared.response_code.ResponseCode.TheVariants.{NXRRSet, NoError, YXRRSet}
 use Rattle.op.specs.declared.response_code.ResponseCode.{ResponseCode}
 use Rattle.op_use.specs.Applying.{IsApplied, IsZoneMap, applied, records_applied, zone_of_map}
-use Rattle.op_use.specs.NamedChanges.{datum_of, has_data_of_set, less_data, less_key, less_name, merged, set_key}
+use Rattle.op_use.specs.NamedChanges.{datum_of}
 use Rattle.op_use.specs.Server.{Sections, sections_of}
-use Rattle.op_use.specs.SoundSet.{IsFor, IsSoundIn, NoCname, is_ordinary, is_plain_class}
-use Rattle.op_use.specs.UpdateMessage.{append, compare_and_swap, create, delete_all, delete_by_rdata, delete_rrset, update_message}
-use Rattle.op_use.specs.Zone.{IsZone, Zone, at, has_set}
+use Rattle.op_use.specs.SoundSet.{IsSoundIn}
+use Rattle.op_use.specs.UpdateMeaning.{MayAddTo, MayClearIn, MayDeleteIn, MaySwapIn, after_append, after_create}
+use Rattle.op_use.specs.UpdateMeaning.{after_delete_all, after_delete_by_rdata, after_delete_rrset, after_swap}
+use Rattle.op_use.specs.UpdateMessage.{append, compare_and_swap, create, delete_all, delete_by_rdata, delete_rrset}
+use Rattle.op_use.specs.UpdateMessage.{update_message}
+use Rattle.op_use.specs.Zone.{IsZone, Zone, at}
 use Rattle.rr.specs.RecordSet.{SetValue}
 use Rattle.rr.specs.declared.record.Record.{Record}
 
@@ -46,44 +46,35 @@ RecordsHoldTheData = (z : Zone) (m : Sections) (k : RrKey) (xs : List (Record RD
 -- what comes of a map by what `create` builds
 abbrev pub CreateApplies : Type 0
 CreateApplies = (id : ℕ) (s : SetValue) (origin : NameValue) (use_edns : Bool)
-    → AppliesUncut (update_message id use_edns (create s origin))
-    (λ z. IsSoundIn z origin s × NoCname z s.name)
-    (λ z. if has_set z (set_key s) then (YXRRSet, z) else (NoError, merged z s))
+    → AppliesUncut (update_message id use_edns (create s origin)) (MayAddTo origin s)
+    (after_create s)
 
 -- what comes of a map by what `append` builds
 abbrev pub AppendApplies : Type 0
 AppendApplies = (id : ℕ) (s : SetValue) (origin : NameValue) (must_exist use_edns : Bool)
-    → AppliesUncut (update_message id use_edns (append s origin must_exist))
-    (λ z. IsSoundIn z origin s × NoCname z s.name)
-    (λ z. if must_exist && not (has_set z (set_key s)) then (NXRRSet, z) else (NoError, merged z s))
+    → AppliesUncut (update_message id use_edns (append s origin must_exist)) (MayAddTo origin s)
+    (after_append s must_exist)
 
 -- what comes of a map by what `compare_and_swap` builds
 abbrev pub SwapApplies : Type 0
 SwapApplies = (id : ℕ) (current new : SetValue) (origin : NameValue) (use_edns : Bool)
     → AppliesUncut (update_message id use_edns (compare_and_swap current new origin))
-    (λ z. (current.records ≢ []) × IsSoundIn z origin current × IsSoundIn z origin new
-    × NoCname z new.name)
-    (λ z. if has_data_of_set z current then (NoError, merged (less_key z (set_key current)) new)
-    else (NXRRSet, z))
+    (MaySwapIn origin current new) (after_swap current new)
 
 -- what comes of a map by what `delete_by_rdata` builds
 abbrev pub DeleteDataApplies : Type 0
 DeleteDataApplies = (id : ℕ) (s : SetValue) (origin : NameValue) (use_edns : Bool)
     → AppliesUncut (update_message id use_edns (delete_by_rdata s origin))
-    (λ z. IsSoundIn z origin s)
-    (λ z. (NoError, less_data z s))
+    (λ z. IsSoundIn z origin s) (after_delete_by_rdata s)
 
 -- what comes of a map by what `delete_rrset` builds
 abbrev pub DeleteSetApplies : Type 0
 DeleteSetApplies = (id : ℕ) (r : Record RData) (origin : NameValue) (use_edns : Bool)
-    → AppliesUncut (update_message id use_edns (delete_rrset r origin))
-    (λ z. IsZone z × IsFor z origin r.name r.dns_class × (is_plain_class r.dns_class ≡ true)
-    × (is_ordinary (type_of_data r.rdata) ≡ true))
-    (λ z. (NoError, less_key z (key_of r.name (type_of_data r.rdata))))
+    → AppliesUncut (update_message id use_edns (delete_rrset r origin)) (MayDeleteIn origin r)
+    (after_delete_rrset r)
 
 -- what comes of a map by what `delete_all` builds
 abbrev pub DeleteNameApplies : Type 0
 DeleteNameApplies = (id : ℕ) (owner origin : NameValue) (class : DNSClass) (use_edns : Bool)
     → AppliesUncut (update_message id use_edns (delete_all owner origin class))
-    (λ z. IsZone z × IsFor z origin owner class × (is_plain_class class ≡ true))
-    (λ z. (NoError, less_name z owner))
+    (MayClearIn origin owner class) (after_delete_all owner)

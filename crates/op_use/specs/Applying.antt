@@ -1,5 +1,5 @@
 -- What `apply_update` makes of a map of record sets (RFC 2136, 3).
-use Rattle.base.specs.Labels.{NameValue}
+use Rattle.base.specs.names.Labels.{NameValue}
 use Rattle.base.specs.RrKey.{key_cmp}
 use Rattle.base.specs.declared.dns_class.DNSClass.TheVariants as classes
 use Rattle.base.specs.declared.dns_class.DNSClass.{DNSClass}
@@ -22,7 +22,8 @@ use Rattle.std.specs.BTreeMap.{BTreeMap}
 use Rattle.std.specs.FinMap as fin
 use Rattle.std.specs.List.{IsAmong, IsDistinct, list_all, list_any}
 use Rattle.std.specs.Ordering.{on}
-use Rattle.std.specs.Prelude.{Bool, List, None, Option, Some, [], false, if◌then◌else◌, map, true, ◌&&◌, ◌||◌, ◌≡◌, ◌≢◌, ◌⊎◌}
+use Rattle.std.specs.Prelude.{Bool, List, None, Option, Some, [], false, if◌then◌else◌, map, true, ◌&&◌, ◌||◌, ◌≡◌, ◌≢◌}
+use Rattle.std.specs.Prelude.{◌⊎◌}
 
 -- the data of a set
 abbrev pub data_in_set : SetValue → List Datum

@@ -1,6 +1,6 @@
 -- Responses: a message, and the bytes that it was read from or is written as.
 use Rattle.std.specs.Prelude.{ℕ, List, ◌≡◌}
-use Rattle.base.specs.Reading.{Fails}
+use Rattle.base.specs.reading.Reading.{Fails}
 use Rattle.base.specs.declared.error.proto_error.ProtoError.{ProtoError}
 use Rattle.base.specs.declared.error.proto_error.ProtoError.TheVariants as refusals
 use Rattle.op.specs.Message.{IsMessageAt, MessageValue, message_at}

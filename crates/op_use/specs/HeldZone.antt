@@ -1,5 +1,5 @@
 -- A zone that is held as a map of record sets.
-use Rattle.base.specs.Labels.{NameValue}
+use Rattle.base.specs.names.Labels.{NameValue}
 use Rattle.base.specs.contracts.dns_class.DNSClass.{the_row as class_row}
 use Rattle.base.specs.contracts.name.Name.{the_row as name_row}
 use Rattle.base.specs.contracts.rr_key.RrKey.{the_row as key_row}

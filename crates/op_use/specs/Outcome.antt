@@ -1,11 +1,11 @@
 -- What an update makes of a zone's map: which sets are put into it, and which go.
-use Rattle.base.specs.Labels.{NameValue}
+use Rattle.base.specs.names.Labels.{NameValue}
 use Rattle.base.specs.RrKey.{key_cmp}
 use Rattle.base.specs.declared.dns_class.DNSClass.{DNSClass}
 use Rattle.base.specs.declared.rr_key.RrKey.{RrKey}
 use Rattle.base_data.specs.declared.rdata.RData.{RData}
 use Rattle.op.specs.declared.response_code.ResponseCode.TheVariants.{NoError}
-use Rattle.op_use.specs.Applying.{IsApplied, IsZoneMap, KeepsSame, names_owner, records_in}
+use Rattle.op_use.specs.Applying.{IsApplied, KeepsSame, names_owner, records_in}
 use Rattle.op_use.specs.HeldZone.{HeldZone}
 use Rattle.op_use.specs.MapUpdates.{IsAfter, has_key, names_set}
 use Rattle.op_use.specs.Server.{Sections}
@@ -16,7 +16,7 @@ use Rattle.rr.specs.RecordSet.{SetValue}
 use Rattle.rr.specs.declared.record.Record.{Record}
 use Rattle.std.specs.BTreeMap as tree
 use Rattle.std.specs.BTreeMap.{BTreeMap}
-use Rattle.std.specs.Prelude.{List, None, false, Option, Some, is_some, true, unwrap_or, ◌&&◌, ◌≡◌, ◌≢◌, ◌⊎◌}
+use Rattle.std.specs.Prelude.{Bool, List, None, false, Option, Some, is_some, true, unwrap_or, ◌&&◌, ◌≡◌, ◌≢◌, ◌⊎◌}
 
 -- a set that is added, or what is there
 abbrev pub added_at : Option SetValue → Option SetValue → Option SetValue
@@ -33,12 +33,16 @@ abbrev pub Installs : Outcome → BTreeMap RrKey SetValue → BTreeMap RrKey Set
 Installs o old new = (q : RrKey)
     → tree.get key_cmp new q ≡ outcome_at o q (tree.get key_cmp old q)
 
+-- what is added under a key and what is changed there fit what a map has: nothing, and a set
+pub record FitsThere (added : Option SetValue) (changed : Option (Option SetValue))
+    (old : Option SetValue) : Type 0 where
+  pub absent : is_some added ≡ true → old ≡ None
+  pub there : is_some changed ≡ true → is_some old ≡ true
+
 -- an outcome of a map: it adds under keys that the map lacks, and changes what the map has
-pub record IsOutcome (o : Outcome) (m : BTreeMap RrKey SetValue) : Type 0 where
-  pub absent : (q : RrKey) → is_some (tree.get key_cmp o.added q) ≡ true
-      → tree.get key_cmp m q ≡ None
-  pub there : (q : RrKey) → is_some (tree.get key_cmp o.changed q) ≡ true
-      → is_some (tree.get key_cmp m q) ≡ true
+abbrev pub IsOutcome : Outcome → BTreeMap RrKey SetValue → Type 0
+IsOutcome o m = (q : RrKey)
+    → FitsThere (tree.get key_cmp o.added q) (tree.get key_cmp o.changed q) (tree.get key_cmp m q)
 
 -- a map by the outcome is the old one after the updates rs, in which a set of the same records is the same
 abbrev pub UpdatesTo : List (Record RData) → HeldZone → Outcome → Type 0
@@ -55,16 +59,24 @@ abbrev pub IsSettled : Option SetValue → Option SetValue → Option SetValue �
 IsSettled old now new = ((new ≡ old) × (records_in now ≡ records_in old))
     ⊎ ((new ≡ now) × (records_in now ≢ records_in old))
 
+-- what an outcome has under a key, before and then: the set that stands now is settled, where there is one that an
+-- update names, and else it is the same
+abbrev pub SettlesAt : Bool → Option SetValue → Option SetValue → Option SetValue → Option SetValue
+    → Option (Option SetValue) → Option (Option SetValue) → Type 0
+SettlesAt true was now old_added added old_changed changed =
+    IsSettled was now (added_at added (unwrap_or changed was)) × FitsThere added changed was
+SettlesAt false was now old_added added old_changed changed =
+    (added ≡ old_added) × (changed ≡ old_changed)
+
 -- The new outcome is the old one with each set of the map now that an update names, but where the map that was has the
 -- same records.
-pub record Settles (rs : List (Record RData)) (was now : BTreeMap RrKey SetValue) (old new : Outcome)
-    : Type 0 where
-  pub is_outcome : IsOutcome old was → IsOutcome new was
-  pub named : (q : RrKey) → (names_set rs q && is_some (tree.get key_cmp now q)) ≡ true
-      → IsSettled (tree.get key_cmp was q) (tree.get key_cmp now q)
-      (outcome_at new q (tree.get key_cmp was q))
-  pub others : (q : RrKey) → (names_set rs q && is_some (tree.get key_cmp now q)) ≡ false
-      → outcome_at new q (tree.get key_cmp was q) ≡ outcome_at old q (tree.get key_cmp was q)
+abbrev pub Settles : List (Record RData) → BTreeMap RrKey SetValue → BTreeMap RrKey SetValue
+    → Outcome → Outcome → Type 0
+Settles rs was now old new = (q : RrKey)
+    → SettlesAt (names_set rs q && is_some (tree.get key_cmp now q))
+    (tree.get key_cmp was q) (tree.get key_cmp now q)
+    (tree.get key_cmp old.added q) (tree.get key_cmp new.added q)
+    (tree.get key_cmp old.changed q) (tree.get key_cmp new.changed q)
 
 -- what comes of an update of a map: nothing with a code, or the outcome of a map that is as a server makes it
 abbrev pub IsAnswer : NameValue → DNSClass → Sections → BTreeMap RrKey SetValue → Answer → Type 0

@@ -1,8 +1,9 @@
 -- what a server does with an update
-use Rattle.std.specs.Prelude.{Bool, true, false, not, List, [], ◌∷◌, ◌++◌, ◌&&◌, ◌||◌, ◌==◌, nat_le, map, length, if◌then◌else◌, Option, Some, None}
+use Rattle.std.specs.Prelude.{Bool, true, false, not, List, [], ◌∷◌, ◌++◌, ◌&&◌, ◌||◌, ◌==◌, nat_le, map, length}
+use Rattle.std.specs.Prelude.{if◌then◌else◌, Option, Some, None}
 use Rattle.std.specs.FinMap as fin
 use Rattle.std.specs.List.{filter, list_any, list_all, fold}
-use Rattle.base.specs.NameOrder.{is_zone_of, same_name}
+use Rattle.base.specs.names.NameOrder.{is_zone_of, same_name}
 use Rattle.base_data.specs.RData.{is_empty_data}
 use Rattle.base_data.specs.declared.rdata.RData.{RData}
 use Rattle.base.specs.RecordType.{type_number}
@@ -11,7 +12,8 @@ use Rattle.base.specs.declared.record_type.RecordType.TheVariants as types
 use Rattle.base.specs.declared.dns_class.DNSClass.{DNSClass}
 use Rattle.base.specs.declared.dns_class.DNSClass.TheVariants as classes
 use Rattle.op.specs.declared.response_code.ResponseCode.{ResponseCode}
-use Rattle.op.specs.declared.response_code.ResponseCode.TheVariants.{NoError, FormErr, NXDomain, YXDomain, YXRRSet, NXRRSet, NotAuth, NotZone}
+use Rattle.op.specs.declared.response_code.ResponseCode.TheVariants.{NoError, FormErr, NXDomain, YXDomain, YXRRSet}
+use Rattle.op.specs.declared.response_code.ResponseCode.TheVariants.{NXRRSet, NotAuth, NotZone}
 use Rattle.rr.specs.declared.record.Record.{Record}
 use Rattle.base.specs.declared.rr_key.RrKey.{RrKey}
 use Rattle.base.specs.RrKey.{key_cmp, key_of}

@@ -1,7 +1,7 @@
 -- Rows of what a server makes of updates of small zones: the codes that it answers, and the zone then (RFC 2136, 3).
 use Rattle.std.specs.Prelude.{false, List, [], ◌∷◌, ◌≡◌, ℕ, codes, map, true}
 use Rattle.std.specs.FinMap as fin
-use Rattle.base.specs.Labels.{NameValue}
+use Rattle.base.specs.names.Labels.{NameValue}
 use Rattle.base.specs.RrKey.{key_of}
 use Rattle.base.specs.declared.dns_class.DNSClass.{DNSClass}
 use Rattle.base.specs.declared.dns_class.DNSClass.TheVariants as classes
@@ -12,7 +12,8 @@ use Rattle.base_data.specs.declared.rdata.RData.{RData}
 use Rattle.base_data.specs.declared.rdata.RData.TheVariants as kinds
 use Rattle.op.specs.declared.query.Query.{Query}
 use Rattle.op.specs.declared.response_code.ResponseCode.{ResponseCode}
-use Rattle.op.specs.declared.response_code.ResponseCode.TheVariants.{NoError, FormErr, NXDomain, YXDomain, YXRRSet, NXRRSet, NotAuth, NotZone}
+use Rattle.op.specs.declared.response_code.ResponseCode.TheVariants.{NoError, FormErr, NXDomain, YXDomain, YXRRSet}
+use Rattle.op.specs.declared.response_code.ResponseCode.TheVariants.{NXRRSet, NotAuth, NotZone}
 use Rattle.rr.specs.RecordSet.{SetValue}
 use Rattle.rr.specs.declared.record.Record.{Record}
 use Rattle.op_use.specs.Server.{Sections, serve}

@@ -2,8 +2,8 @@
 use Rattle.std.specs.Prelude.{All, Bool, None, Option, Some, false, nat_le, not, true, ℕ, ◌&&◌, ◌<◌, ◌==◌, ◌||◌, ◌≡◌}
 use Rattle.std.specs.List.{AllByRecursion, IsDistinct}
 use Rattle.std.specs.Ordering.{on}
-use Rattle.base.specs.Labels.{NameValue}
-use Rattle.base.specs.NameOrder.{is_zone_of, same_name}
+use Rattle.base.specs.names.Labels.{NameValue}
+use Rattle.base.specs.names.NameOrder.{is_zone_of, same_name}
 use Rattle.base_data.specs.Kinds.{type_of_data}
 use Rattle.base_data.specs.declared.rdata.RData.{RData}
 use Rattle.base_data.specs.declared.rdata.soa.SOA.{SOA}

@@ -1,6 +1,6 @@
 -- The messages that ask for an update, and their sections (RFC 2136, 2).
 use Rattle.std.specs.Prelude.{Bool, List, None, Option, Some, [], false, true, map, if◌then◌else◌, ℕ, ◌++◌, ◌∷◌}
-use Rattle.base.specs.Labels.{NameValue}
+use Rattle.base.specs.names.Labels.{NameValue}
 use Rattle.base_data.specs.Kinds.{type_of_data}
 use Rattle.base_data.specs.declared.rdata.RData.{RData}
 use Rattle.base_data.specs.declared.rdata.RData.TheVariants as rdata

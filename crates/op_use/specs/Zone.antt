@@ -4,8 +4,8 @@ use Rattle.std.specs.List.{IsDistinct, list_any}
 use Rattle.std.specs.Ordering.{on}
 use Rattle.std.specs.FinMap as fin
 use Rattle.std.specs.FinMap.{FinMap}
-use Rattle.base.specs.Labels.{NameValue}
-use Rattle.base.specs.NameOrder.{lowered, same_lower, same_name}
+use Rattle.base.specs.names.Labels.{NameValue}
+use Rattle.base.specs.names.NameOrder.{lowered, same_lower, same_name}
 use Rattle.base.specs.RrKey.{key_cmp}
 use Rattle.base.specs.declared.dns_class.DNSClass.{DNSClass}
 use Rattle.base.specs.declared.record_type.RecordType.{RecordType}

@@ -4,7 +4,7 @@ ghost use Rattle.op_use.specs.Outcome.{IsAnswer};
 ghost use Rattle.std.specs.Prelude.{◌≡◌, IfOk, IsOkUnless, OnErr};
 ghost use Rattle.op.specs.Message.{message_value};
 ghost use Rattle.op_use.specs.Applying.{HasSameSets, IsApplied, IsZoneMap};
-ghost use Rattle.op_use.specs.HeldZone.{HeldZone, zone_held};
+ghost use Rattle.op_use.specs.HeldZone.{zone_held};
 ghost use Rattle.op_use.specs.Server.{fault as fault_of, sections_of};
 
 mod changes;

@@ -5,7 +5,7 @@ ghost use Rattle.std.specs.Prelude.{◌≡◌, ◌⊎◌, ◌&&◌, ◌↔◌, �
 ghost use Rattle.std.specs.Borrow.{sem};
 ghost use Rattle.std.specs.List.{list_any};
 ghost use Rattle.std.specs.Option.{option_map};
-ghost use Rattle.base.specs.NameOrder.{is_zone_of, same_name};
+ghost use Rattle.base.specs.names.NameOrder.{is_zone_of, same_name};
 ghost use Rattle.base.specs.declared.record_type.RecordType.TheVariants as types;
 ghost use Rattle.op.specs.Cut.{IsWritten};
 ghost use Rattle.op.specs.Fault.{IsMessageFault};

@@ -1,7 +1,7 @@
 //! Messages as bytes, with the address that they came from or go to.
 
 ghost use Rattle.std.specs.Prelude.{◌≡◌, ◌⊎◌, ℕ, IfErr, IfOk, MatchResult};
-ghost use Rattle.base.specs.Reading.{Fails};
+ghost use Rattle.base.specs.reading.Reading.{Fails};
 ghost use Rattle.op.specs.Fault.{IsMessageFault};
 ghost use Rattle.op.specs.Fits.{Fits};
 ghost use Rattle.op.specs.Message.{IsMessageAt, MessageValue, message_at, message_value};

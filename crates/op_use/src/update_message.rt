@@ -2,7 +2,7 @@
 
 ghost use Rattle.std.specs.Prelude.{◌≡◌, ◌++◌, ◌∷◌, [], IsOkUnless, OnErr, OnOk};
 ghost use Rattle.std.specs.Option.{option_copied};
-ghost use Rattle.base.specs.Items.{IsCountable};
+ghost use Rattle.base.specs.writing.Items.{IsCountable};
 ghost use Rattle.op.specs.Message.{MessageValue, message_value};
 ghost use Rattle.op.specs.Parts.{AddsGiven};
 

@@ -1,7 +1,8 @@
 -- The faults of zone text and of zones, their numbers, and the refusals that name them.
 use Rattle.std.specs.Prelude.{◌≡◌, ℕ, None, Option, Some, option_map, Result, Ok, Err}
 use Rattle.base.specs.ParseError.{parse_number}
-use Rattle.base.specs.TextFaults.{Fault, fault_of, unexpected, lexer, says, not_found, unknown_type, unsupported_type, bad_data, bad_name, bad_ttl}
+use Rattle.base.specs.texts.TextFaults.{Fault, fault_of, unexpected, lexer, says, not_found, unknown_type}
+use Rattle.base.specs.texts.TextFaults.{unsupported_type, bad_data, bad_name, bad_ttl}
 use Rattle.parsed_zone.specs.declared.refusal.ZoneRefusal.{ZoneRefusal}
 use Rattle.parsed_zone.specs.declared.refusal.ZoneRefusal.TheVariants as refusals
 

@@ -2,9 +2,9 @@
 use Rattle.std.specs.List.{flat_map}
 use Rattle.std.specs.Prelude.{ℕ, List, ◌++◌, codes, if◌then◌else◌, Option, Result, Err}
 use Rattle.std.specs.Str.{is_utf8}
-use Rattle.base.specs.Labels.{NameValue}
-use Rattle.base.specs.NameText.{name_text}
-use Rattle.base.specs.TextFaults.{Fault}
+use Rattle.base.specs.names.Labels.{NameValue}
+use Rattle.base.specs.texts.NameText.{name_text}
+use Rattle.base.specs.texts.TextFaults.{Fault}
 use Rattle.base.specs.declared.rr_key.RrKey.{RrKey}
 use Rattle.op.specs.MessageText.{line, record_lines}
 use Rattle.rr.specs.RecordSet.{SetValue}

@@ -5,7 +5,6 @@ ghost use Rattle.std.specs.Prelude.{◌≡◌, ◌++◌, IfOk, OnOk};
 ghost use Rattle.std.specs.String.{string_bytes};
 ghost use Rattle.base.specs.RrKey.{key_cmp};
 ghost use Rattle.op.specs.MessageText.{line, record_lines};
-ghost use Rattle.rr.specs.Record.{record_text};
 ghost use Rattle.txt.specs.Parser.{texts_in};
 ghost use Rattle.txt.specs.ZoneSets.{AreKeyed};
 ghost use Rattle.parsed_zone.specs.Faults.{MakesOrRefuses};

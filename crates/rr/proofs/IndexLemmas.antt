@@ -1,6 +1,8 @@
 -- What an index of data says of the records, and what putting one in does to it.
-use Rattle.std.proofs.Common.{ℕ, zero, suc, Bool, true, false, List, [], ◌∷◌, ◌++◌, ◌≡◌, ◌≢◌, ◌<◌, ◌≤◌, ◌-◌, ◌&&◌, nat_eq}
-use Rattle.std.proofs.Common.{map, ◌||◌, ◌⊎◌, inl, inr, refl, sym, ap, subst, ◌∙◌, length, get_or, set, arith, cond, if◌then◌else◌, length-append}
+use Rattle.std.proofs.Common.{ℕ, zero, suc, Bool, true, false, List, [], ◌∷◌, ◌++◌, ◌≡◌, ◌≢◌, ◌<◌, ◌≤◌, ◌-◌, ◌&&◌}
+use Rattle.std.proofs.Common.{nat_eq}
+use Rattle.std.proofs.Common.{map, ◌||◌, ◌⊎◌, inl, inr, refl, sym, ap, subst, ◌∙◌, length, get_or, set, arith, cond}
+use Rattle.std.proofs.Common.{if◌then◌else◌, length-append}
 use Rattle.std.specs.Prelude.{Option, Some, None, Vec, is_some}
 use Rattle.std.specs.BTreeMap.{BTreeMap, UpdatesBy}
 use Rattle.std.specs.Cmp.{eq_by_cmp_equiv, second_so}
@@ -11,13 +13,14 @@ use Rattle.std.specs.Map.{KeepsOthers, AreApart}
 use Rattle.std.specs.Ordering.{nat_cmp, is_eq}
 use Rattle.std.specs.declared.alloc.Global.{Global}
 use Rattle.std.proofs.lemmas.Bool.{cases_lt, cases_Bool, cond-true, cond-false, or_parts}
-use Rattle.std.proofs.lemmas.List.{append-nil, get_or_append_left, get_or-append_right, get_or-set_same, get_or-set_other, length-map, length-set}
+use Rattle.std.proofs.lemmas.List.{append-nil, get_or_append_left, get_or-append_right, get_or-set_same}
+use Rattle.std.proofs.lemmas.List.{get_or-set_other, length-map, length-set}
 use Rattle.std.proofs.lemmas.Map.Text.{is_eq-slice_cmp}
 use Rattle.std.proofs.lemmas.Option.{same_Some}
 use Rattle.std.proofs.Math.Bool.{or-false, or-true}
-use Rattle.base.specs.Labels.{wire_of}
+use Rattle.base.specs.names.Labels.{wire_of}
 use Rattle.base.specs.RecordType.{same_type}
-use Rattle.base.proofs.LawLemmas.{none_is_not}
+use Rattle.base.proofs.writing.LawLemmas.{none_is_not}
 use Rattle.base_data.specs.Kinds.{canonical_data}
 use Rattle.base_data.specs.OPT.{options_wire}
 use Rattle.base_data.specs.SameData.{same_data}
@@ -53,7 +56,8 @@ one_key (kinds.SOA x) (kinds.SOA y) h =
     let f = (soa_same x y).0 h in
     let m = name_same x.mname y.mname f.0 in
     let r = name_same x.rname y.rname f.1 in
-    λ i. m.0 i ++ r.0 i ++ to_be_bytes w32 (f.2 i) ++ to_be_bytes w32 (f.3 i) ++ to_be_bytes w32 (f.4 i) ++ to_be_bytes w32 (f.5 i) ++ to_be_bytes w32 (f.6 i)
+    λ i. m.0 i ++ r.0 i ++ to_be_bytes w32 (f.2 i) ++ to_be_bytes w32 (f.3 i) ++ to_be_bytes w32
+    (f.4 i) ++ to_be_bytes w32 (f.5 i) ++ to_be_bytes w32 (f.6 i)
 one_key (kinds.SRV x) (kinds.SRV y) h =
     let f = (srv_same x y).0 h in
     let n = name_same x.target y.target f.3 in
@@ -66,7 +70,8 @@ one_key (kinds.Update0 x) (kinds.Update0 y) h = refl
 one_key (kinds.Unknown code x) (kinds.Unknown other y) h = (bytes_decides x y).0 (second_so (same_type code other) _ h)
 one_key _ _ h = cc
 
-get_or_any : (rs : List (Record RData)) (i p : ℕ) (d e : Record RData) → i ≡ p → i < length rs → get_or rs i d ≡ get_or rs p e
+get_or_any : (rs : List (Record RData)) (i p : ℕ) (d e : Record RData) → i ≡ p → i < length rs
+    → get_or rs i d ≡ get_or rs p e
 get_or_any [] i p d e same inside = absurd (omega arith)
 get_or_any (x ∷ xs) zero zero d e same inside = refl
 get_or_any (x ∷ xs) zero (suc p) d e same inside = absurd (omega (arith, same))
@@ -86,36 +91,46 @@ sub_self : (n : ℕ) → n - n ≡ 0
 sub_self n = omega arith
 
 -- where a record of equal data stands, the index has its place
-pub equal_at : (find : List ℕ → Option ℕ) (rs : List (Record RData)) (rdata : RData) → IsIndexOf find rs → (i : ℕ) (d : Record RData) → i < length rs
+pub equal_at : (find : List ℕ → Option ℕ) (rs : List (Record RData)) (rdata : RData) → IsIndexOf find rs
+    → (i : ℕ) (d : Record RData) → i < length rs
     → same_data (get_or rs i d).rdata rdata ≡ true → find (canonical_data rdata) ≡ Some i
 equal_at find rs rdata h i d inside same = ap find (sym (one_key (get_or rs i d).rdata rdata same)) ∙ h.at i d inside
 
 -- where the index has another place or none, the data is other
-pub other_at : (find : List ℕ → Option ℕ) (rs : List (Record RData)) (rdata : RData) → IsIndexOf find rs → (i : ℕ) (d : Record RData) → i < length rs
+pub other_at : (find : List ℕ → Option ℕ) (rs : List (Record RData)) (rdata : RData) → IsIndexOf find rs
+    → (i : ℕ) (d : Record RData) → i < length rs
     → (find (canonical_data rdata) ≢ Some i) → same_data (get_or rs i d).rdata rdata ≡ false
 other_at find rs rdata h i d inside apart = elim (cases_Bool (same_data (get_or rs i d).rdata rdata)) [
   | inl same ↦ absurd (apart (equal_at find rs rdata h i d inside same))
   | inr differ ↦ differ
 ]
 
-none_any : (rdata : RData) (rs : List (Record RData)) → ((i : ℕ) (d : Record RData) → i < length rs → same_data (get_or rs i d).rdata rdata ≡ false)
+none_any : (rdata : RData) (rs : List (Record RData))
+    → ((i : ℕ) (d : Record RData) → i < length rs → same_data (get_or rs i d).rdata rdata ≡ false)
     → list_any (λ (x : Record RData). same_data x.rdata rdata) rs ≡ false
 none_any rdata [] h = refl
 none_any rdata (x ∷ xs) h = λ i. h 0 x (omega arith) i || none_any rdata xs (λ j d inside. h (suc j) d (omega arith)) i
 
 -- the index has no place for the data
-pub absent_none : (find : List ℕ → Option ℕ) (rs : List (Record RData)) (rdata : RData) → IsIndexOf find rs → find (canonical_data rdata) ≡ None
+pub absent_none : (find : List ℕ → Option ℕ) (rs : List (Record RData)) (rdata : RData) → IsIndexOf find rs
+    → find (canonical_data rdata) ≡ None
     → list_any (λ (x : Record RData). same_data x.rdata rdata) rs ≡ false
-absent_none find rs rdata h none = none_any rdata rs (λ i d inside. other_at find rs rdata h i d inside (λ is. none_is_not i (sym none ∙ is)))
+absent_none find rs rdata h none = none_any rdata rs
+    (λ i d inside. other_at find rs rdata h i d inside (λ is. none_is_not i (sym none ∙ is)))
 
 -- the place that it has is that of no record
-pub absent_past : (find : List ℕ → Option ℕ) (rs : List (Record RData)) (rdata : RData) (p : ℕ) → IsIndexOf find rs → find (canonical_data rdata) ≡ Some p → (p < length rs → ⊥)
+pub absent_past : (find : List ℕ → Option ℕ) (rs : List (Record RData)) (rdata : RData) (p : ℕ) → IsIndexOf find rs
+    → find (canonical_data rdata) ≡ Some p → (p < length rs → ⊥)
     → list_any (λ (x : Record RData). same_data x.rdata rdata) rs ≡ false
-absent_past find rs rdata p h at past = none_any rdata rs (λ i d inside. other_at find rs rdata h i d inside (λ is. past (omega (arith, same_Some i p (sym is ∙ at), inside))))
+absent_past find rs rdata p h at past = none_any rdata rs
+    (λ i d inside. other_at find rs rdata h i d inside
+    (λ is. past (omega (arith, same_Some i p (sym is ∙ at), inside))))
 
 -- the place that it has is that of other data
-pub absent_other : (find : List ℕ → Option ℕ) (rs : List (Record RData)) (rdata : RData) (p : ℕ) (e : Record RData) → IsIndexOf find rs → find (canonical_data rdata) ≡ Some p
-    → e ≡ get_or rs p e → same_data e.rdata rdata ≡ false → list_any (λ (x : Record RData). same_data x.rdata rdata) rs ≡ false
+pub absent_other : (find : List ℕ → Option ℕ) (rs : List (Record RData)) (rdata : RData) (p : ℕ) (e : Record RData)
+    → IsIndexOf find rs → find (canonical_data rdata) ≡ Some p
+    → e ≡ get_or rs p e → same_data e.rdata rdata ≡ false
+    → list_any (λ (x : Record RData). same_data x.rdata rdata) rs ≡ false
 absent_other find rs rdata p e h at is other = none_any rdata rs all where
   all : (i : ℕ) (d : Record RData) → i < length rs → same_data (get_or rs i d).rdata rdata ≡ false
   all i d inside = elim (cases_Bool (same_data (get_or rs i d).rdata rdata)) [
@@ -127,7 +142,8 @@ absent_other find rs rdata p e h at is other = none_any rdata rs all where
   ]
 
 -- the place that it has is that of equal data
-pub only_at : (find : List ℕ → Option ℕ) (rs : List (Record RData)) (rdata : RData) (p : ℕ) (e : Record RData) → IsIndexOf find rs → find (canonical_data rdata) ≡ Some p
+pub only_at : (find : List ℕ → Option ℕ) (rs : List (Record RData)) (rdata : RData) (p : ℕ) (e : Record RData)
+    → IsIndexOf find rs → find (canonical_data rdata) ≡ Some p
     → p < length rs → e ≡ get_or rs p e → same_data e.rdata rdata ≡ true → IsOnlyAt rdata rs p
 only_at find rs rdata p e h at inside is same = record {
   inside = inside;
@@ -135,105 +151,138 @@ only_at find rs rdata p e h at inside is same = record {
   others = λ i d within other. other_at find rs rdata h i d within (λ here. other (same_Some i p (sym here ∙ at)));
 }
 
-replaced_at : (r : Record RData) (rs : List (Record RData)) (p : ℕ) → p < length rs → ((d : Record RData) → same_data (get_or rs p d).rdata r.rdata ≡ true)
-    → ((i : ℕ) (d : Record RData) → i < length rs → i ≢ p → same_data (get_or rs i d).rdata r.rdata ≡ false) → replaced r rs ≡ set rs p r
+replaced_at : (r : Record RData) (rs : List (Record RData)) (p : ℕ) → p < length rs
+    → ((d : Record RData) → same_data (get_or rs p d).rdata r.rdata ≡ true)
+    → ((i : ℕ) (d : Record RData) → i < length rs → i ≢ p → same_data (get_or rs i d).rdata r.rdata ≡ false)
+    → replaced r rs ≡ set rs p r
 replaced_at r [] p inside same others = absurd (omega arith)
 replaced_at r (x ∷ xs) zero inside same others =
-    let rest : replaced r xs ≡ xs = replaced_none r xs (none_any r.rdata xs (λ j d within. others (suc j) d (omega arith) (λ e. absurd (omega (arith, e))))) in
+    let rest : replaced r xs ≡ xs = replaced_none r xs
+    (none_any r.rdata xs (λ j d within. others (suc j) d (omega arith) (λ e. absurd (omega (arith, e))))) in
     λ i. cond-true (has_data_of r x) r x (same x) i ∷ rest i
 replaced_at r (x ∷ xs) (suc p) inside same others =
-    let first : (if has_data_of r x then r else x) ≡ x = cond-false (has_data_of r x) r x (others 0 x (omega arith) (λ e. absurd (omega (arith, e)))) in
-    let rest : replaced r xs ≡ set xs p r = replaced_at r xs p (omega arith) same (λ j d within other. others (suc j) d (omega arith) (λ e. other (omega (arith, e)))) in
+    let first : (if has_data_of r x then r else x) ≡ x =
+    cond-false (has_data_of r x) r x (others 0 x (omega arith) (λ e. absurd (omega (arith, e)))) in
+    let rest : replaced r xs ≡ set xs p r = replaced_at r xs p (omega arith) same
+    (λ j d within other. others (suc j) d (omega arith) (λ e. other (omega (arith, e)))) in
     λ i. first i ∷ rest i
 
-any_here : (r : Record RData) (rs : List (Record RData)) (p : ℕ) → p < length rs → ((d : Record RData) → same_data (get_or rs p d).rdata r.rdata ≡ true)
+any_here : (r : Record RData) (rs : List (Record RData)) (p : ℕ) → p < length rs
+    → ((d : Record RData) → same_data (get_or rs p d).rdata r.rdata ≡ true)
     → list_any (has_data_of r) rs ≡ true
 any_here r [] p inside same = absurd (omega arith)
 any_here r (x ∷ xs) zero inside same = ap (λ b. b || list_any (has_data_of r) xs) (same x)
-any_here r (x ∷ xs) (suc p) inside same = ap (λ b. has_data_of r x || b) (any_here r xs p (omega arith) same) ∙ or-true (has_data_of r x)
+any_here r (x ∷ xs) (suc p) inside same =
+    ap (λ b. has_data_of r x || b) (any_here r xs p (omega arith) same) ∙ or-true (has_data_of r x)
 
 -- r joined to records of which one alone has its data stands in its place
 pub joined_at : (r : Record RData) (rs : List (Record RData)) (p : ℕ) → IsOnlyAt r.rdata rs p → set rs p r ≡ joined r rs
 joined_at r rs p h =
-    sym (ap (λ b. replaced r rs ++ (if b then [] else r ∷ [])) (any_here r rs p h.inside h.same) ∙ append-nil (replaced r rs) ∙ replaced_at r rs p h.inside h.same h.others)
+    sym (ap (λ b. replaced r rs ++ (if b then [] else r ∷ [])) (any_here r rs p h.inside h.same)
+    ∙ append-nil (replaced r rs) ∙ replaced_at r rs p h.inside h.same h.others)
 
 -- joined to records of which none has its data it stands after them
-pub joined_after : (r : Record RData) (rs : List (Record RData)) → list_any (has_data_of r) rs ≡ false → rs ++ r ∷ [] ≡ joined r rs
+pub joined_after : (r : Record RData) (rs : List (Record RData)) → list_any (has_data_of r) rs ≡ false
+    → rs ++ r ∷ [] ≡ joined r rs
 joined_after r rs none = sym (λ i. replaced_none r rs none i ++ (if none i then [] else r ∷ []))
 
 -- a key more in the index
-pub index_wider : (find after : List ℕ → Option ℕ) (rs : List (Record RData)) (key : List ℕ) → IsIndexOf find rs → find key ≡ None
+pub index_wider : (find after : List ℕ → Option ℕ) (rs : List (Record RData)) (key : List ℕ) → IsIndexOf find rs
+    → find key ≡ None
     → ((cs : List ℕ) → cs ≢ key → after cs ≡ find cs) → IsIndexOf after rs
 index_wider find after rs key h free others = record {
-  at = λ i d inside. others (canonical_data (get_or rs i d).rdata) (λ e. none_is_not i (sym free ∙ ap find (sym e) ∙ h.at i d inside)) ∙ h.at i d inside;
+  at = λ i d inside. others (canonical_data (get_or rs i d).rdata)
+      (λ e. none_is_not i (sym free ∙ ap find (sym e) ∙ h.at i d inside)) ∙ h.at i d inside;
 }
 
 -- and the record of that key after the others
-pub index_push : (find after : List ℕ → Option ℕ) (rs : List (Record RData)) (r : Record RData) → IsIndexOf find rs → find (canonical_data r.rdata) ≡ None
-    → ((cs : List ℕ) → cs ≢ canonical_data r.rdata → after cs ≡ find cs) → after (canonical_data r.rdata) ≡ Some (length rs) → IsIndexOf after (rs ++ r ∷ [])
+pub index_push : (find after : List ℕ → Option ℕ) (rs : List (Record RData)) (r : Record RData) → IsIndexOf find rs
+    → find (canonical_data r.rdata) ≡ None
+    → ((cs : List ℕ) → cs ≢ canonical_data r.rdata → after cs ≡ find cs)
+    → after (canonical_data r.rdata) ≡ Some (length rs) → IsIndexOf after (rs ++ r ∷ [])
 index_push find after rs r h free others here = record { at = at } where
   wide : IsIndexOf after rs
   wide = index_wider find after rs (canonical_data r.rdata) h free others
 
   at_end : (d : Record RData) → get_or (rs ++ r ∷ []) (length rs) d ≡ r
-  at_end d = get_or-append_right rs (r ∷ []) (length rs) (length rs) d refl (omega arith) ∙ ap (λ (k : ℕ). get_or (r ∷ []) k d) (sub_self (length rs))
+  at_end d = get_or-append_right rs (r ∷ []) (length rs) (length rs) d refl (omega arith)
+      ∙ ap (λ (k : ℕ). get_or (r ∷ []) k d) (sub_self (length rs))
 
-  at : (i : ℕ) (d : Record RData) → i < length (rs ++ r ∷ []) → after (canonical_data (get_or (rs ++ r ∷ []) i d).rdata) ≡ Some i
+  at : (i : ℕ) (d : Record RData) → i < length (rs ++ r ∷ [])
+      → after (canonical_data (get_or (rs ++ r ∷ []) i d).rdata) ≡ Some i
   at i d inside = elim (cases_lt i (length rs)) [
-    | inl low ↦ subst (λ (x : Record RData). after (canonical_data x.rdata) ≡ Some i) (sym (get_or_append_left rs (r ∷ []) d i low)) (wide.at i d low)
+    | inl low ↦ subst (λ (x : Record RData). after (canonical_data x.rdata) ≡ Some i)
+        (sym (get_or_append_left rs (r ∷ []) d i low)) (wide.at i d low)
     | inr high ↦
         let last : length rs ≡ i = omega (arith, length-append rs (r ∷ []), inside, high) in
-        subst (λ (k : ℕ). after (canonical_data (get_or (rs ++ r ∷ []) k d).rdata) ≡ Some k) last (ap (λ (x : Record RData). after (canonical_data x.rdata)) (at_end d) ∙ here)
+        subst (λ (k : ℕ). after (canonical_data (get_or (rs ++ r ∷ []) k d).rdata) ≡ Some k) last
+        (ap (λ (x : Record RData). after (canonical_data x.rdata)) (at_end d) ∙ here)
   ]
 
 -- a record in the place of one of its key
-pub index_set : (find : List ℕ → Option ℕ) (rs : List (Record RData)) (p : ℕ) (r : Record RData) → IsIndexOf find rs → find (canonical_data r.rdata) ≡ Some p → IsIndexOf find (set rs p r)
+pub index_set : (find : List ℕ → Option ℕ) (rs : List (Record RData)) (p : ℕ) (r : Record RData) → IsIndexOf find rs
+    → find (canonical_data r.rdata) ≡ Some p → IsIndexOf find (set rs p r)
 index_set find rs p r h here = record { at = at } where
-  at : (i : ℕ) (d : Record RData) → i < length (set rs p r) → find (canonical_data (get_or (set rs p r) i d).rdata) ≡ Some i
+  at : (i : ℕ) (d : Record RData) → i < length (set rs p r)
+      → find (canonical_data (get_or (set rs p r) i d).rdata) ≡ Some i
   at i d inside =
       let within : i < length rs = omega (arith, length-set rs p r, inside) in elim (cases_eq i p) [
         | inl same ↦
-            let one : get_or (set rs p r) i d ≡ r = ap (λ (k : ℕ). get_or (set rs k r) i d) (sym same) ∙ get_or-set_same rs i r d within in
+            let one : get_or (set rs p r) i d ≡ r = ap (λ (k : ℕ). get_or (set rs k r) i d) (sym same)
+            ∙ get_or-set_same rs i r d within in
             ap (λ (x : Record RData). find (canonical_data x.rdata)) one ∙ here ∙ ap Some (sym same)
-        | inr other ↦ ap (λ (x : Record RData). find (canonical_data x.rdata)) (get_or-set_other rs p i r d other) ∙ h.at i d within
+        | inr other ↦ ap (λ (x : Record RData). find (canonical_data x.rdata)) (get_or-set_other rs p i r d other)
+            ∙ h.at i d within
       ]
 
 -- a change of the index at one key leaves what is found at others
 module _ (bs : List ℕ) (m n : BTreeMap (Vec ℕ Global) ℕ) (w : Option ℕ)
     (h : UpdatesBy (λ x y. slice_cmp nat_cmp x.items y.items) (λ k. slice_cmp nat_cmp bs k.items) m n w) where
-  apart : (cs : List ℕ) → cs ≢ bs → AreApart (λ (k : Vec ℕ Global). is_eq (slice_cmp nat_cmp bs k.items)) (λ k. is_eq (slice_cmp nat_cmp cs k.items))
+  apart : (cs : List ℕ) → cs ≢ bs → AreApart (λ (k : Vec ℕ Global). is_eq (slice_cmp nat_cmp bs k.items))
+      (λ k. is_eq (slice_cmp nat_cmp cs k.items))
   apart cs other k at = elim (cases_Bool (is_eq (slice_cmp nat_cmp cs k.items))) [
     | inr differ ↦ differ
-    | inl equal ↦ absurd (other ((bytes_decides cs k.items).0 (sym (is_eq-slice_cmp cs k.items) ∙ equal) ∙ sym ((bytes_decides bs k.items).0 (sym (is_eq-slice_cmp bs k.items) ∙ at))))
+    | inl equal ↦ absurd (other ((bytes_decides cs k.items).0 (sym (is_eq-slice_cmp cs k.items) ∙ equal)
+        ∙ sym ((bytes_decides bs k.items).0 (sym (is_eq-slice_cmp bs k.items) ∙ at))))
   ]
 
   pub place_others : (cs : List ℕ) → cs ≢ bs → place_at n cs ≡ place_at m cs
   unfolding KeepsOthers
-  place_others cs other = h.3 (λ k. is_eq (slice_cmp nat_cmp cs k.items)) (λ x y. (eq_by_cmp_equiv nat_list_cmp_total).congr cs x.items y.items) (apart cs other)
+  place_others cs other = h.3 (λ k. is_eq (slice_cmp nat_cmp cs k.items))
+      (λ x y. (eq_by_cmp_equiv nat_list_cmp_total).congr cs x.items y.items) (apart cs other)
 
   pub place_here : place_at n bs ≡ w
   place_here = h.1
 
 -- a record more, after the others
-pub pushed : (m n : BTreeMap (Vec ℕ Global) ℕ) (xs zs : List (Record RData)) (r : Record RData) (ks : List ℕ) (p : ℕ) → IsIndexOf (place_at m) xs → ks ≡ canonical_data r.rdata
-    → place_at m ks ≡ None → place_at n ks ≡ Some p → ((cs : List ℕ) → cs ≢ ks → place_at n cs ≡ place_at m cs) → p ≡ length xs → zs ≡ xs ++ r ∷ [] → IsIndexOf (place_at n) zs
+pub pushed : (m n : BTreeMap (Vec ℕ Global) ℕ) (xs zs : List (Record RData)) (r : Record RData) (ks : List ℕ) (p : ℕ)
+    → IsIndexOf (place_at m) xs → ks ≡ canonical_data r.rdata
+    → place_at m ks ≡ None → place_at n ks ≡ Some p → ((cs : List ℕ) → cs ≢ ks → place_at n cs ≡ place_at m cs)
+    → p ≡ length xs → zs ≡ xs ++ r ∷ [] → IsIndexOf (place_at n) zs
 pushed m n xs zs r ks p h key free here others len is =
     subst (λ (us : List (Record RData)). IsIndexOf (place_at n) us) (sym is)
-    (index_push (place_at m) (place_at n) xs r h (ap (place_at m) (sym key) ∙ free) (λ cs other. others cs (λ e. other (e ∙ key))) (ap (place_at n) (sym key) ∙ here ∙ ap Some len))
+    (index_push (place_at m) (place_at n) xs r h (ap (place_at m) (sym key) ∙ free)
+    (λ cs other. others cs (λ e. other (e ∙ key))) (ap (place_at n) (sym key) ∙ here ∙ ap Some len))
 
 -- what a look-up finds
-module _ (m : BTreeMap (Vec ℕ Global) ℕ) (rs : List (Record RData)) (ks : List ℕ) (rdata : RData) (h : IsIndexOf (place_at m) rs) (key : ks ≡ canonical_data rdata) where
+module _ (m : BTreeMap (Vec ℕ Global) ℕ) (rs : List (Record RData)) (ks : List ℕ) (rdata : RData)
+    (h : IsIndexOf (place_at m) rs) (key : ks ≡ canonical_data rdata) where
   pub none_at : None ≡ place_at m ks → list_any (λ (x : Record RData). same_data x.rdata rdata) rs ≡ false
   none_at none = absent_none (place_at m) rs rdata h (ap (place_at m) (sym key) ∙ sym none)
 
-  pub past_at : (p : ℕ) → Some p ≡ place_at m ks → length rs ≤ p → list_any (λ (x : Record RData). same_data x.rdata rdata) rs ≡ false
-  past_at p at past = absent_past (place_at m) rs rdata p h (ap (place_at m) (sym key) ∙ sym at) (λ below. omega (arith, past, below))
+  pub past_at : (p : ℕ) → Some p ≡ place_at m ks → length rs ≤ p
+      → list_any (λ (x : Record RData). same_data x.rdata rdata) rs ≡ false
+  past_at p at past = absent_past (place_at m) rs rdata p h (ap (place_at m) (sym key) ∙ sym at)
+      (λ below. omega (arith, past, below))
 
-  pub other_there : (p : ℕ) (e : Record RData) → Some p ≡ place_at m ks → e ≡ get_or rs p e → same_data e.rdata rdata ≡ false → list_any (λ (x : Record RData). same_data x.rdata rdata) rs ≡ false
+  pub other_there : (p : ℕ) (e : Record RData) → Some p ≡ place_at m ks → e ≡ get_or rs p e
+      → same_data e.rdata rdata ≡ false → list_any (λ (x : Record RData). same_data x.rdata rdata) rs ≡ false
   other_there p e at is other = absent_other (place_at m) rs rdata p e h (ap (place_at m) (sym key) ∙ sym at) is other
 
-  pub found_at : (p : ℕ) (e : Record RData) → Some p ≡ place_at m ks → p < length rs → e ≡ get_or rs p e → same_data e.rdata rdata ≡ true → IsOnlyAt rdata rs p
-  found_at p e at inside is same = only_at (place_at m) rs rdata p e h (ap (place_at m) (sym key) ∙ sym at) inside is same
+  pub found_at : (p : ℕ) (e : Record RData) → Some p ≡ place_at m ks → p < length rs → e ≡ get_or rs p e
+      → same_data e.rdata rdata ≡ true → IsOnlyAt rdata rs p
+  found_at p e at inside is same = only_at (place_at m) rs rdata p e h
+      (ap (place_at m) (sym key) ∙ sym at) inside is same
 
 -- whether an equal record of the same TTL is there, by the record of equal data
 no_entry : (r : Record RData) (rs : List (Record RData)) → list_any (has_data_of r) rs ≡ false → has_entry r rs ≡ false
@@ -243,66 +292,90 @@ no_entry r (x ∷ xs) h =
     let first : (same_entry x r && nat_eq x.ttl r.ttl) ≡ false = sym (other_data x r parts.0) in
     λ i. first i || no_entry r xs parts.1 i
 
-entry_by : (r : Record RData) (rs : List (Record RData)) (p : ℕ) → p < length rs → ((i : ℕ) (d : Record RData) → i < length rs → i ≢ p → same_data (get_or rs i d).rdata r.rdata ≡ false)
+entry_by : (r : Record RData) (rs : List (Record RData)) (p : ℕ) → p < length rs
+    → ((i : ℕ) (d : Record RData) → i < length rs → i ≢ p → same_data (get_or rs i d).rdata r.rdata ≡ false)
     → (d : Record RData) → has_entry r rs ≡ (same_entry (get_or rs p d) r && nat_eq (get_or rs p d).ttl r.ttl)
 entry_by r [] p inside others d = absurd (omega arith)
 entry_by r (x ∷ xs) zero inside others d =
-    let rest : has_entry r xs ≡ false = no_entry r xs (none_any r.rdata xs (λ j e within. others (suc j) e (omega arith) (λ q. absurd (omega (arith, q))))) in
+    let rest : has_entry r xs ≡ false = no_entry r xs
+    (none_any r.rdata xs (λ j e within. others (suc j) e (omega arith) (λ q. absurd (omega (arith, q))))) in
     ap (λ b. (same_entry x r && nat_eq x.ttl r.ttl) || b) rest ∙ or-false (same_entry x r && nat_eq x.ttl r.ttl)
 entry_by r (x ∷ xs) (suc p) inside others d =
-    let first : (same_entry x r && nat_eq x.ttl r.ttl) ≡ false = sym (other_data x r (others 0 x (omega arith) (λ q. absurd (omega (arith, q))))) in
-    ap (λ b. b || has_entry r xs) first ∙ entry_by r xs p (omega arith) (λ j e within other. others (suc j) e (omega arith) (λ q. other (omega (arith, q)))) d
+    let first : (same_entry x r && nat_eq x.ttl r.ttl) ≡ false =
+    sym (other_data x r (others 0 x (omega arith) (λ q. absurd (omega (arith, q))))) in
+    ap (λ b. b || has_entry r xs) first ∙ entry_by r xs p (omega arith)
+    (λ j e within other. others (suc j) e (omega arith) (λ q. other (omega (arith, q)))) d
 
-pub entry_at : (r : Record RData) (rs : List (Record RData)) (p : ℕ) (x : Record RData) → IsOnlyAt r.rdata rs p → x ≡ get_or rs p x
+pub entry_at : (r : Record RData) (rs : List (Record RData)) (p : ℕ) (x : Record RData) → IsOnlyAt r.rdata rs p
+    → x ≡ get_or rs p x
     → has_entry r rs ≡ (same_entry x r && nat_eq x.ttl r.ttl)
-entry_at r rs p x h is = entry_by r rs p h.inside h.others x ∙ sym (ap (λ (y : Record RData). same_entry y r && nat_eq y.ttl r.ttl) is)
+entry_at r rs p x h is = entry_by r rs p h.inside h.others x
+    ∙ sym (ap (λ (y : Record RData). same_entry y r && nat_eq y.ttl r.ttl) is)
 
-pub entry_none : (r : Record RData) (rs : List (Record RData)) → list_any (has_data_of r) rs ≡ false → has_entry r rs ≡ false
+pub entry_none : (r : Record RData) (rs : List (Record RData)) → list_any (has_data_of r) rs ≡ false
+    → has_entry r rs ≡ false
 entry_none = no_entry
 
 -- records among which one alone has the data of r, and those with r among them
-entries : (r : Record RData) (rs : List (Record RData)) (b : Bool) → has_entry r rs ≡ b → entered r rs ≡ (if b then (false, rs) else (true, joined r rs))
+entries : (r : Record RData) (rs : List (Record RData)) (b : Bool) → has_entry r rs ≡ b
+    → entered r rs ≡ (if b then (false, rs) else (true, joined r rs))
 entries r rs b h = ap (λ (c : Bool). if c then (false, rs) else (true, joined r rs)) h
 
-pub entered_not : (r : Record RData) (rs : List (Record RData)) (p : ℕ) (x : Record RData) → IsOnlyAt r.rdata rs p → x ≡ get_or rs p x
+pub entered_not : (r : Record RData) (rs : List (Record RData)) (p : ℕ) (x : Record RData) → IsOnlyAt r.rdata rs p
+    → x ≡ get_or rs p x
     → (same_entry x r && nat_eq x.ttl r.ttl) ≡ true → ◌≡◌ {A = Bool × List (Record RData)} (false, rs) (entered r rs)
 entered_not r rs p x h is same = sym (entries r rs true (entry_at r rs p x h is ∙ same))
 
-pub entered_at : (r : Record RData) (rs : List (Record RData)) (p : ℕ) (x : Record RData) → IsOnlyAt r.rdata rs p → x ≡ get_or rs p x
-    → (same_entry x r && nat_eq x.ttl r.ttl) ≡ false → ◌≡◌ {A = Bool × List (Record RData)} (true, set rs p r) (entered r rs)
-entered_at r rs p x h is other = (λ i. (true, joined_at r rs p h i)) ∙ sym (entries r rs false (entry_at r rs p x h is ∙ other))
+pub entered_at : (r : Record RData) (rs : List (Record RData)) (p : ℕ) (x : Record RData) → IsOnlyAt r.rdata rs p
+    → x ≡ get_or rs p x
+    → (same_entry x r && nat_eq x.ttl r.ttl) ≡ false
+    → ◌≡◌ {A = Bool × List (Record RData)} (true, set rs p r) (entered r rs)
+entered_at r rs p x h is other = (λ i. (true, joined_at r rs p h i))
+    ∙ sym (entries r rs false (entry_at r rs p x h is ∙ other))
 
-pub entered_after : (r : Record RData) (rs : List (Record RData)) → list_any (has_data_of r) rs ≡ false → ◌≡◌ {A = Bool × List (Record RData)} (true, rs ++ r ∷ []) (entered r rs)
+pub entered_after : (r : Record RData) (rs : List (Record RData)) → list_any (has_data_of r) rs ≡ false
+    → ◌≡◌ {A = Bool × List (Record RData)} (true, rs ++ r ∷ []) (entered r rs)
 entered_after r rs none = (λ i. (true, joined_after r rs none i)) ∙ sym (entries r rs false (entry_none r rs none))
 
 -- the first record of equal data is the only one
-first_by : (rdata : RData) (rs : List (Record RData)) (p : ℕ) → p < length rs → ((d : Record RData) → same_data (get_or rs p d).rdata rdata ≡ true)
-    → ((i : ℕ) (d : Record RData) → i < length rs → i ≢ p → same_data (get_or rs i d).rdata rdata ≡ false) → IsFirstAt rdata rs p
+first_by : (rdata : RData) (rs : List (Record RData)) (p : ℕ) → p < length rs
+    → ((d : Record RData) → same_data (get_or rs p d).rdata rdata ≡ true)
+    → ((i : ℕ) (d : Record RData) → i < length rs → i ≢ p → same_data (get_or rs i d).rdata rdata ≡ false)
+    → IsFirstAt rdata rs p
 first_by rdata [] p inside same others = absurd (omega arith)
-first_by rdata (x ∷ xs) zero inside same others = sym (cond-true (same_data x.rdata rdata) (Some x) (first_of rdata xs) (same x))
+first_by rdata (x ∷ xs) zero inside same others =
+    sym (cond-true (same_data x.rdata rdata) (Some x) (first_of rdata xs) (same x))
 first_by rdata (x ∷ xs) (suc p) inside same others =
-    first_by rdata xs p (omega arith) same (λ j d within other. others (suc j) d (omega arith) (λ q. other (omega (arith, q))))
-    ∙ sym (cond-false (same_data x.rdata rdata) (Some x) (first_of rdata xs) (others 0 x (omega arith) (λ q. absurd (omega (arith, q)))))
+    first_by rdata xs p (omega arith) same (λ j d within other. others (suc j) d (omega arith)
+    (λ q. other (omega (arith, q))))
+    ∙ sym (cond-false (same_data x.rdata rdata) (Some x) (first_of rdata xs)
+    (others 0 x (omega arith) (λ q. absurd (omega (arith, q)))))
 
 pub first_only : (r : Record RData) (rs : List (Record RData)) (p : ℕ) → IsOnlyAt r.rdata rs p → IsFirstAt r.rdata rs p
 first_only r rs p h = first_by r.rdata rs p h.inside h.same h.others
 
 -- also once r stands there
-pub first_set : (r : Record RData) (rs : List (Record RData)) (p : ℕ) → IsOnlyAt r.rdata rs p → IsFirstAt r.rdata (set rs p r) p
+pub first_set : (r : Record RData) (rs : List (Record RData)) (p : ℕ) → IsOnlyAt r.rdata rs p
+    → IsFirstAt r.rdata (set rs p r) p
 first_set r rs p h =
     first_by r.rdata (set rs p r) p (omega (arith, length-set rs p r, h.inside))
-    (λ d. ap (λ (x : Record RData). same_data x.rdata r.rdata) (get_or-set_same rs p r d h.inside) ∙ data_laws.refl r.rdata)
-    (λ i d within other. ap (λ (x : Record RData). same_data x.rdata r.rdata) (get_or-set_other rs p i r d other) ∙ h.others i d (omega (arith, length-set rs p r, within)) other)
+    (λ d. ap (λ (x : Record RData). same_data x.rdata r.rdata) (get_or-set_same rs p r d h.inside)
+    ∙ data_laws.refl r.rdata)
+    (λ i d within other. ap (λ (x : Record RData). same_data x.rdata r.rdata) (get_or-set_other rs p i r d other)
+    ∙ h.others i d (omega (arith, length-set rs p r, within)) other)
 
 -- or after records of other data
-pub first_after : (r : Record RData) (rs : List (Record RData)) → list_any (has_data_of r) rs ≡ false → IsFirstAt r.rdata (rs ++ r ∷ []) (length rs)
+pub first_after : (r : Record RData) (rs : List (Record RData)) → list_any (has_data_of r) rs ≡ false
+    → IsFirstAt r.rdata (rs ++ r ∷ []) (length rs)
 first_after r [] none = sym (cond-true (same_data r.rdata r.rdata) (Some r) None (data_laws.refl r.rdata))
 first_after r (x ∷ xs) none =
     let parts : (has_data_of r x ≡ false) × (list_any (has_data_of r) xs ≡ false) = or_parts (has_data_of r x) _ none in
-    first_after r xs parts.1 ∙ sym (cond-false (same_data x.rdata r.rdata) (Some x) (first_of r.rdata (xs ++ r ∷ [])) parts.0)
+    first_after r xs parts.1 ∙ sym (cond-false (same_data x.rdata r.rdata) (Some x)
+    (first_of r.rdata (xs ++ r ∷ [])) parts.0)
 
 -- the index has the place of the one that has the data
-pub place_is : (find : List ℕ → Option ℕ) (rs : List (Record RData)) (rdata : RData) (p : ℕ) (d : Record RData) → IsIndexOf find rs → IsOnlyAt rdata rs p → find (canonical_data rdata) ≡ Some p
+pub place_is : (find : List ℕ → Option ℕ) (rs : List (Record RData)) (rdata : RData) (p : ℕ) (d : Record RData)
+    → IsIndexOf find rs → IsOnlyAt rdata rs p → find (canonical_data rdata) ≡ Some p
 place_is find rs rdata p d h only = equal_at find rs rdata h p d only.inside (only.same d)
 
 pub none_of : (o : Option ℕ) → is_some o ≡ false → o ≡ None
@@ -317,13 +390,15 @@ if_current (Missing scans) rs ss more h = tt
 if_current (Made places) rs ss more h = more (place_at places.value) h
 
 -- other fields change, and the data stays
-same_mapped : (f : Record RData → Record RData) → ((x : Record RData) → (f x).rdata ≡ x.rdata) → (rs : List (Record RData)) (i : ℕ) (d : Record RData) → i < length rs
+same_mapped : (f : Record RData → Record RData) → ((x : Record RData) → (f x).rdata ≡ x.rdata)
+    → (rs : List (Record RData)) (i : ℕ) (d : Record RData) → i < length rs
     → (get_or (map f rs) i d).rdata ≡ (get_or rs i d).rdata
 same_mapped f same [] i d inside = absurd (omega arith)
 same_mapped f same (x ∷ xs) zero d inside = same x
 same_mapped f same (x ∷ xs) (suc i) d inside = same_mapped f same xs i d (omega arith)
 
-pub index_mapped : (find : List ℕ → Option ℕ) (f : Record RData → Record RData) → ((x : Record RData) → (f x).rdata ≡ x.rdata) → (rs : List (Record RData))
+pub index_mapped : (find : List ℕ → Option ℕ) (f : Record RData → Record RData)
+    → ((x : Record RData) → (f x).rdata ≡ x.rdata) → (rs : List (Record RData))
     → IsIndexOf find rs → IsIndexOf find (map f rs)
 index_mapped find f same rs h = record { at = at } where
   at : (i : ℕ) (d : Record RData) → i < length (map f rs) → find (canonical_data (get_or (map f rs) i d).rdata) ≡ Some i
@@ -333,14 +408,27 @@ index_mapped find f same rs h = record { at = at } where
 
 -- the place for a record is that of the one that has its data, or after all
 pub place_known : (r : Record RData) (rs : List (Record RData)) (p : ℕ) → IsOnlyAt r.rdata rs p → IsPlaceFor r rs p
-place_known r rs p h = record { within = omega (arith, h.inside); known = λ _. h; none = λ last. absurd (omega (arith, last, h.inside)) }
+place_known r rs p h = record {
+  within = omega (arith, h.inside);
+  known = λ _. h;
+  none =
+      λ last. absurd (omega (arith, last, h.inside));
+}
 
-pub place_last : (r : Record RData) (rs : List (Record RData)) (p : ℕ) → p ≡ length rs → list_any (has_data_of r) rs ≡ false → IsPlaceFor r rs p
-place_last r rs p last none = record { within = omega (arith, last); known = λ inside. absurd (omega (arith, last, inside)); none = λ _. none }
+pub place_last : (r : Record RData) (rs : List (Record RData)) (p : ℕ) → p ≡ length rs
+    → list_any (has_data_of r) rs ≡ false → IsPlaceFor r rs p
+place_last r rs p last none = record {
+  within = omega (arith, last);
+  known =
+      λ inside. absurd (omega (arith, last, inside));
+  none = λ _. none;
+}
 
 -- an index of records, with r too, is one of what is left where r was put in
-pub current_entered : (index : Index) (r : Record RData) (xs ys : List (Record RData)) (b : Bool) → (b, ys) ≡ entered r xs → IsCurrent index xs → IsCurrent index (joined r xs) → IsCurrent index ys
-current_entered index r xs ys b is old more = subst (λ (p : Bool × List (Record RData)). IsCurrent index p.1) (sym is) (by (has_entry r xs)) where
-  by : (c : Bool) → IsCurrent index (cond {A = Bool × List (Record RData)} c (false, xs) (true, joined r xs)).1
-  by true = old
-  by false = more
+pub current_entered : (index : Index) (r : Record RData) (xs ys : List (Record RData)) (b : Bool)
+    → (b, ys) ≡ entered r xs → IsCurrent index xs → IsCurrent index (joined r xs) → IsCurrent index ys
+current_entered index r xs ys b is old more =
+    subst (λ (p : Bool × List (Record RData)). IsCurrent index p.1) (sym is) (by (has_entry r xs)) where
+      by : (c : Bool) → IsCurrent index (cond {A = Bool × List (Record RData)} c (false, xs) (true, joined r xs)).1
+      by true = old
+      by false = more

@@ -8,8 +8,8 @@ use Rattle.std.specs.Ordering.{is_eq, nat_cmp, ordering_then}
 use Rattle.std.specs.declared.cmp.Ordering.{Ordering}
 use Rattle.std.specs.declared.cmp.Ordering.TheVariants.{Less, Equal, Greater}
 use Rattle.base.specs.DNSClass.{class_cmp}
-use Rattle.base.specs.NameOrder.{folded, name_cmp, same_name}
-use Rattle.base.specs.NameOrderLaws.{same_by-tie}
+use Rattle.base.specs.names.NameOrder.{folded, name_cmp, same_name}
+use Rattle.base.specs.names.NameOrderLaws.{same_by-tie}
 use Rattle.base.specs.Keys.{keys_match}
 use Rattle.base.specs.RecordType.{same_type, type_cmp, type_number, type_rank}
 use Rattle.base.specs.declared.dns_class.DNSClass.{DNSClass}
@@ -34,7 +34,8 @@ tied_as : (same : Bool) (o : Ordering) → same ≡ is_eq o → (o ≡ Equal) �
 tied_as same o tie = (λ h. tie ∙ ap is_eq h, λ h. (Equal-is o).0 (sym tie ∙ h))
 
 -- and where the order ties only what is the same
-tied_same : {K : Type 0} {R : K → K → Ordering} → IsTotalOrder R → ((x y : K) → R x y ≡ Equal → x ≡ y) → (x y : K) → (R x y ≡ Equal) ↔ (x ≡ y)
+tied_same : {K : Type 0} {R : K → K → Ordering} → IsTotalOrder R → ((x y : K) → R x y ≡ Equal → x ≡ y) → (x y : K)
+    → (R x y ≡ Equal) ↔ (x ≡ y)
 tied_same {R = R} total exact x y = (exact x y, λ same. subst (λ z. R x z ≡ Equal) same (tied_itself total x))
 
 types_Decide : (a b : RecordType) → Decides (same_type a b) (a ≡ b)
@@ -50,7 +51,8 @@ numbers_tied : (a b : ℕ) → nat_cmp a b ≡ Equal → a ≡ b
 numbers_tied a b h = (unsigned_Decides a b).0 (unsigned_ties a b ∙ ap is_eq h)
 
 pub records_tied : (a b : Record RData) → KeptData a.rdata → KeptData b.rdata → (record_cmp a b ≡ Equal)
-    ↔ (IsTrue (same_name a.name b.name) × (type_of_data a.rdata ≡ type_of_data b.rdata) × (a.dns_class ≡ b.dns_class) × (a.ttl ≡ b.ttl) × IsTrue (equality.eq a.rdata b.rdata))
+    ↔ (IsTrue (same_name a.name b.name) × (type_of_data a.rdata ≡ type_of_data b.rdata) × (a.dns_class ≡ b.dns_class)
+    × (a.ttl ≡ b.ttl) × IsTrue (equality.eq a.rdata b.rdata))
 records_tied a b fits_a fits_b =
     let names = tied_as (same_name a.name b.name) (name_cmp a.name b.name) (same_by-tie folded a.name b.name) in
     let types = tied_same type_cmp-total types_tied (type_of_data a.rdata) (type_of_data b.rdata) in

@@ -1,5 +1,6 @@
 -- Laws of record sets.
-use Rattle.std.proofs.Common.{ℕ, Bool, true, false, not, cond, List, [], ◌∷◌, ◌≡◌, ◌≢◌, ◌<◌, ◌||◌, ◌&&◌, ◌++◌, nat_eq, nat_le, refl, sym, ap, subst, ◌∙◌, length, filter, arith, if◌then◌else◌}
+use Rattle.std.proofs.Common.{ℕ, Bool, true, false, not, cond, List, [], ◌∷◌, ◌≡◌, ◌≢◌, ◌<◌, ◌||◌, ◌&&◌, ◌++◌, nat_eq}
+use Rattle.std.proofs.Common.{nat_le, refl, sym, ap, subst, ◌∙◌, length, filter, arith, if◌then◌else◌}
 use Rattle.std.specs.List.{list_any, AllByRecursion, IsDistinct}
 use Rattle.std.specs.Ordering.{on}
 use Rattle.std.specs.Cmp.{IsEquivalence, nat_eq_equiv}
@@ -18,7 +19,8 @@ use Rattle.std.proofs.lemmas.Bool.{or_cases}
 use Rattle.std.proofs.Math.Bool.{or-true}
 use Rattle.rr.specs.declared.record.Record.{Record}
 use Rattle.rr.specs.RecordSet.{IsTidy, SetValue, is_ns, is_soa, same_entry, same_entry-equiv}
-use Rattle.rr.specs.SetChanges.{beside, has_data_of, has_entry, insert, is_kept, is_later, is_left, joined, own_record, remove, replaced}
+use Rattle.rr.specs.SetChanges.{beside, has_data_of, has_entry, insert, is_kept, is_later, is_left, joined, own_record}
+use Rattle.rr.specs.SetChanges.{remove, replaced}
 use Rattle.rr.specs.SetLaws.{IsRaised, StaysFilled}
 
 pub laws : IsEquivalence same_data
@@ -34,8 +36,10 @@ pub parts_of : (x : Record RData) (xs : List (Record RData)) → Distinct (x ∷
 unfolding IsDistinct
 parts_of x xs h = h
 
-pub apart : (x y r : Record RData) → same_data x.rdata y.rdata ≡ false → same_data y.rdata r.rdata ≡ true → same_data x.rdata r.rdata ≡ false
-apart x y r far near = laws.symm x.rdata r.rdata ∙ sym (laws.congr y.rdata r.rdata x.rdata near) ∙ laws.symm y.rdata x.rdata ∙ far
+pub apart : (x y r : Record RData) → same_data x.rdata y.rdata ≡ false → same_data y.rdata r.rdata ≡ true
+    → same_data x.rdata r.rdata ≡ false
+apart x y r far near = laws.symm x.rdata r.rdata ∙ sym (laws.congr y.rdata r.rdata x.rdata near)
+    ∙ laws.symm y.rdata x.rdata ∙ far
 
 pub distinct_kept : (b : Bool) (xs : List (Record RData)) → Distinct xs → Distinct (if b then [] else xs)
 unfolding IsDistinct
@@ -45,40 +49,55 @@ distinct_kept false xs d = d
 abbrev pub unless_kept : Bool → SetValue → Bool × SetValue → Bool × SetValue
 unless_kept b set p = if b then (false, set) else p
 
-stays_so : (set changed : SetValue) (b : Bool) → (unless_kept b set (true, changed)).0 ≡ false → (unless_kept b set (true, changed)).1 ≡ set
+stays_so : (set changed : SetValue) (b : Bool) → (unless_kept b set (true, changed)).0 ≡ false
+    → (unless_kept b set (true, changed)).1 ≡ set
 stays_so set changed true h = refl
 stays_so set changed false h = cc
 
 -- an insert that answers false changes nothing
-pub false_keeps : (set : SetValue) (r : Record RData) (serial : ℕ) → (insert set r serial).0 ≡ false → (insert set r serial).1 ≡ set
-false_keeps set r serial = stays_so set (record set { records = joined r (beside set.record_type set.records); ttl = r.ttl; serial = serial }) (is_left set.record_type set.records r)
+pub false_keeps : (set : SetValue) (r : Record RData) (serial : ℕ) → (insert set r serial).0 ≡ false
+    → (insert set r serial).1 ≡ set
+false_keeps set r serial = stays_so set (record set {
+  records = joined r (beside set.record_type set.records);
+  ttl =
+      r.ttl;
+  serial = serial;
+}) (is_left set.record_type set.records r)
 
 -- after one that answers true the record is there
 its_own : (r : Record RData) → (same_entry r r && nat_eq r.ttl r.ttl) ≡ true
 its_own r = λ i. same_entry-equiv.refl r i && nat_eq_equiv.refl r.ttl i
 
-held_at : (r x : Record RData) (ys : List (Record RData)) (b c : Bool) → (b || c) ≡ true → (c ≡ true → has_entry r ys ≡ true) → has_entry r ((if b then r else x) ∷ ys) ≡ true
+held_at : (r x : Record RData) (ys : List (Record RData)) (b c : Bool) → (b || c) ≡ true
+    → (c ≡ true → has_entry r ys ≡ true) → has_entry r ((if b then r else x) ∷ ys) ≡ true
 held_at r x ys true c h go = ap (λ b. b || has_entry r ys) (its_own r)
-held_at r x ys false c h go = ap (λ b. (same_entry x r && nat_eq x.ttl r.ttl) || b) (go h) ∙ or-true (same_entry x r && nat_eq x.ttl r.ttl)
+held_at r x ys false c h go = ap (λ b. (same_entry x r && nat_eq x.ttl r.ttl) || b) (go h)
+    ∙ or-true (same_entry x r && nat_eq x.ttl r.ttl)
 
-held_replaced : (r : Record RData) (xs : List (Record RData)) → list_any (has_data_of r) xs ≡ true → has_entry r (replaced r xs) ≡ true
+held_replaced : (r : Record RData) (xs : List (Record RData)) → list_any (has_data_of r) xs ≡ true
+    → has_entry r (replaced r xs) ≡ true
 held_replaced r [] h = cc
-held_replaced r (x ∷ xs) h = held_at r x (replaced r xs) (has_data_of r x) (list_any (has_data_of r) xs) h (held_replaced r xs)
+held_replaced r (x ∷ xs) h = held_at r x (replaced r xs) (has_data_of r x) (list_any (has_data_of r) xs) h
+    (held_replaced r xs)
 
 held_pushed : (r : Record RData) (xs : List (Record RData)) → has_entry r (xs ++ r ∷ []) ≡ true
 held_pushed r [] = ap (λ b. b || false) (its_own r)
-held_pushed r (x ∷ xs) = ap (λ b. (same_entry x r && nat_eq x.ttl r.ttl) || b) (held_pushed r xs) ∙ or-true (same_entry x r && nat_eq x.ttl r.ttl)
+held_pushed r (x ∷ xs) = ap (λ b. (same_entry x r && nat_eq x.ttl r.ttl) || b) (held_pushed r xs)
+    ∙ or-true (same_entry x r && nat_eq x.ttl r.ttl)
 
-held_by : (r : Record RData) (xs : List (Record RData)) (b : Bool) → list_any (has_data_of r) xs ≡ b → has_entry r (replaced r xs ++ (if b then [] else r ∷ [])) ≡ true
+held_by : (r : Record RData) (xs : List (Record RData)) (b : Bool) → list_any (has_data_of r) xs ≡ b
+    → has_entry r (replaced r xs ++ (if b then [] else r ∷ [])) ≡ true
 held_by r xs true any = subst (λ ys. has_entry r ys ≡ true) (sym (append-nil (replaced r xs))) (held_replaced r xs any)
 held_by r xs false none = held_pushed r (replaced r xs)
 
-held_so : (r : Record RData) (set changed : SetValue) (b : Bool) → has_entry r changed.records ≡ true → (unless_kept b set (true, changed)).0 ≡ true
+held_so : (r : Record RData) (set changed : SetValue) (b : Bool) → has_entry r changed.records ≡ true
+    → (unless_kept b set (true, changed)).0 ≡ true
     → has_entry r (unless_kept b set (true, changed)).1.records ≡ true
 held_so r set changed true held h = cc
 held_so r set changed false held h = held
 
-pub true_holds : (set : SetValue) (r : Record RData) (serial : ℕ) → (insert set r serial).0 ≡ true → has_entry r (insert set r serial).1.records ≡ true
+pub true_holds : (set : SetValue) (r : Record RData) (serial : ℕ) → (insert set r serial).0 ≡ true
+    → has_entry r (insert set r serial).1.records ≡ true
 true_holds set r serial = held_so r set (record set {
   records = joined r (beside set.record_type
       set.records);
@@ -91,27 +110,33 @@ true_holds set r serial = held_so r set (record set {
 not_both : (x y r : Record RData) → same_data x.rdata y.rdata ≡ false → has_data_of r x ≡ true → has_data_of r y ≡ false
 not_both x y r far e = sym (laws.congr x.rdata r.rdata y.rdata e ∙ laws.symm r.rdata y.rdata) ∙ far
 
-full_of_two : (x y r : Record RData) (zs : List (Record RData)) (b : Bool) → has_data_of r x ≡ b → same_data x.rdata y.rdata ≡ false → filter (λ z. not (has_data_of r z)) (x ∷ y ∷ zs) ≢ []
+full_of_two : (x y r : Record RData) (zs : List (Record RData)) (b : Bool) → has_data_of r x ≡ b
+    → same_data x.rdata y.rdata ≡ false → filter (λ z. not (has_data_of r z)) (x ∷ y ∷ zs) ≢ []
 full_of_two x y r zs true e far f =
     let ys = filter (λ z. not (has_data_of r z)) zs in
-    let first : filter (λ z. not (has_data_of r z)) (x ∷ y ∷ zs) ≡ cond (not (has_data_of r y)) (y ∷ ys) ys = cond-false (not (has_data_of r x)) _ _ (ap not e) in
-    let second : cond (not (has_data_of r y)) (y ∷ ys) ys ≡ y ∷ ys = cond-true (not (has_data_of r y)) _ _ (ap not (not_both x y r far e)) in
+    let first : filter (λ z. not (has_data_of r z)) (x ∷ y ∷ zs) ≡ cond (not (has_data_of r y)) (y ∷ ys) ys =
+    cond-false (not (has_data_of r x)) _ _ (ap not e) in
+    let second : cond (not (has_data_of r y)) (y ∷ ys) ys ≡ y ∷ ys =
+    cond-true (not (has_data_of r y)) _ _ (ap not (not_both x y r far e)) in
     let made : y ∷ ys ≡ [] = sym (first ∙ second) ∙ f in
     cc
 full_of_two x y r zs false e far f =
     let ys = filter (λ z. not (has_data_of r z)) (y ∷ zs) in
-    let first : filter (λ z. not (has_data_of r z)) (x ∷ y ∷ zs) ≡ x ∷ ys = cond-true (not (has_data_of r x)) _ _ (ap not e) in
+    let first : filter (λ z. not (has_data_of r z)) (x ∷ y ∷ zs) ≡ x ∷ ys =
+    cond-true (not (has_data_of r x)) _ _ (ap not e) in
     let made : x ∷ ys ≡ [] = sym first ∙ f in
     cc
 
 -- of two and more records of distinct data, taking out those of one data leaves some
-pub some_left : (r : Record RData) (xs : List (Record RData)) → Distinct xs → 1 < length xs → filter (λ z. not (has_data_of r z)) xs ≢ []
+pub some_left : (r : Record RData) (xs : List (Record RData)) → Distinct xs → 1 < length xs
+    → filter (λ z. not (has_data_of r z)) xs ≢ []
 some_left r [] d h = absurd (omega arith)
 some_left r (x ∷ []) d h = absurd (omega arith)
 some_left r (x ∷ y ∷ zs) d h = full_of_two x y r zs _ refl (parts_of x (y ∷ zs) d).0.0
 
 in_type : (t : RecordType) (r : Record RData) (xs : List (Record RData))
-    → AllByRecursion (λ (x : Record RData). type_of_data x.rdata ≡ t) xs → list_any (has_data_of r) xs ≡ true → type_of_data r.rdata ≡ t
+    → AllByRecursion (λ (x : Record RData). type_of_data x.rdata ≡ t) xs → list_any (has_data_of r) xs ≡ true
+    → type_of_data r.rdata ≡ t
 in_type t r [] own h = cc
 in_type t r (x ∷ xs) own h = ⊎_elim
     (λ (e : has_data_of r x ≡ true). sym (one_type x.rdata r.rdata e) ∙ own.0)
@@ -123,14 +148,19 @@ abbrev taken : SetValue → Record RData → ℕ → Bool × SetValue
 taken set r serial = (true, record set { records = filter (λ x. not (has_data_of r x)) set.records; serial = serial })
 
 left_by : (set : SetValue) (r : Record RData) (serial : ℕ) (b : Bool)
-    → (is_kept set (type_of_data r.rdata) || not (list_any (has_data_of r) set.records)) ≡ b → is_ns set.record_type ≡ true → IsTidy set → set.records ≢ []
+    → (is_kept set (type_of_data r.rdata) || not (list_any (has_data_of r) set.records)) ≡ b
+    → is_ns set.record_type ≡ true → IsTidy set → set.records ≢ []
     → (cond {A = Bool × SetValue} b (false, set) (taken set r serial)).1.records ≢ []
 left_by set r serial true e ns tidy full = full
 left_by set r serial false e ns tidy full =
-    let parts : (is_kept set (type_of_data r.rdata) ≡ false) × (not (list_any (has_data_of r) set.records) ≡ false) = or_parts (is_kept set (type_of_data r.rdata)) _ e in
-    let type : type_of_data r.rdata ≡ set.record_type = in_type set.record_type r set.records tidy.own_type (not-false _ parts.1) in
-    let few : (is_ns (type_of_data r.rdata) && nat_le (length set.records) 1) ≡ false = (or_parts (is_soa (type_of_data r.rdata)) _ parts.0).1 in
-    let more : nat_le (length set.records) 1 ≡ false = ap (λ b. b && nat_le (length set.records) 1) (sym (ap is_ns type ∙ ns)) ∙ few in
+    let parts : (is_kept set (type_of_data r.rdata) ≡ false) × (not (list_any (has_data_of r) set.records) ≡ false) =
+    or_parts (is_kept set (type_of_data r.rdata)) _ e in
+    let type : type_of_data r.rdata ≡ set.record_type =
+    in_type set.record_type r set.records tidy.own_type (not-false _ parts.1) in
+    let few : (is_ns (type_of_data r.rdata) && nat_le (length set.records) 1) ≡ false =
+    (or_parts (is_soa (type_of_data r.rdata)) _ parts.0).1 in
+    let more : nat_le (length set.records) 1 ≡ false =
+    ap (λ b. b && nat_le (length set.records) 1) (sym (ap is_ns type ∙ ns)) ∙ few in
     some_left r set.records tidy.distinct (leb-false (length set.records) 1 more)
 
 -- a record that was joined to others is among them
@@ -138,16 +168,27 @@ joined_filled : (r : Record RData) (xs : List (Record RData)) → joined r xs �
 joined_filled r [] same = cc
 joined_filled r (x ∷ xs) same = cc
 
-unless_left : (set : SetValue) (after : Bool × SetValue) (b : Bool) → set.records ≢ [] → after.1.records ≢ [] → (cond {A = Bool × SetValue} b (false, set) after).1.records ≢ []
+unless_left : (set : SetValue) (after : Bool × SetValue) (b : Bool) → set.records ≢ [] → after.1.records ≢ []
+    → (cond {A = Bool × SetValue} b (false, set) after).1.records ≢ []
 unless_left set after true full more = full
 unless_left set after false full more = more
 
-insert_filled : (set : SetValue) (r : Record RData) (serial : ℕ) → set.records ≢ [] → (insert set r serial).1.records ≢ []
+insert_filled : (set : SetValue) (r : Record RData) (serial : ℕ) → set.records ≢ []
+    → (insert set r serial).1.records ≢ []
 insert_filled set r serial full =
-    unless_left set (true, record set { records = joined r (beside set.record_type set.records); ttl = r.ttl; serial = serial })
+    unless_left set (
+      true,
+      record set {
+        records = joined r (beside set.record_type set.records);
+        ttl = r.ttl;
+        serial =
+            serial;
+      },
+    )
     (is_left set.record_type set.records r) full (joined_filled r (beside set.record_type set.records))
 
-pub last_server_stays : (set : SetValue) → IsTidy set → is_ns set.record_type ≡ true → set.records ≢ [] → StaysFilled set
+pub last_server_stays : (set : SetValue) → IsTidy set → is_ns set.record_type ≡ true → set.records ≢ []
+    → StaysFilled set
 last_server_stays set tidy ns full = record {
   removed = λ r serial. left_by set r serial _ refl ns tidy full;
   inserted = λ r serial. insert_filled set r serial full;
@@ -163,9 +204,11 @@ kept_or false false h = refl
 soa_kept : (set : SetValue) (t : RecordType) → t ≡ types.SOA → is_kept set t ≡ true
 soa_kept set t e = ap (λ u. is_kept set u) e
 
-pub soa_stays : (set : SetValue) (r : Record RData) (serial : ℕ) → IsTidy set → set.record_type ≡ types.SOA → ◌≡◌ {A = Bool × SetValue} (remove set r serial) (false, set)
+pub soa_stays : (set : SetValue) (r : Record RData) (serial : ℕ) → IsTidy set → set.record_type ≡ types.SOA
+    → ◌≡◌ {A = Bool × SetValue} (remove set r serial) (false, set)
 soa_stays set r serial tidy soa =
-    cond-true (is_kept set (type_of_data r.rdata) || not (list_any (has_data_of r) set.records)) _ _ (kept_or (is_kept set (type_of_data r.rdata)) (list_any (has_data_of r) set.records)
+    cond-true (is_kept set (type_of_data r.rdata) || not (list_any (has_data_of r) set.records)) _ _
+    (kept_or (is_kept set (type_of_data r.rdata)) (list_any (has_data_of r) set.records)
     (λ any. soa_kept set (type_of_data r.rdata) (in_type set.record_type r set.records tidy.own_type any ∙ soa)))
 
 -- an SOA that gives way
@@ -176,33 +219,42 @@ raised _ _ h = cc
 abbrev alone : SetValue → Record RData → ℕ → SetValue
 alone set r serial = record set { records = r ∷ []; ttl = r.ttl; serial = serial }
 
-risen_by : (set : SetValue) (r : Record RData) (serial : ℕ) (b : Bool) → (unless_kept (not b || false) set (true, alone set r serial)).0 ≡ true
+risen_by : (set : SetValue) (r : Record RData) (serial : ℕ) (b : Bool)
+    → (unless_kept (not b || false) set (true, alone set r serial)).0 ≡ true
     → (b ≡ true) × ((unless_kept (not b || false) set (true, alone set r serial)).1.records ≡ r ∷ [])
 risen_by set r serial true h = (refl, refl)
 risen_by set r serial false h = cc
 
-stayed_by : (set : SetValue) (r : Record RData) (serial : ℕ) (b : Bool) → b ≡ false → unless_kept (not b || false) set (true, alone set r serial) ≡ (false, set)
+stayed_by : (set : SetValue) (r : Record RData) (serial : ℕ) (b : Bool) → b ≡ false
+    → unless_kept (not b || false) set (true, alone set r serial) ≡ (false, set)
 stayed_by set r serial true h = cc
 stayed_by set r serial false h = refl
 
 abbrev of_start : SetValue → Record RData → List (Record RData) → SetValue
 of_start set x xs = record set { record_type = types.SOA; records = x ∷ xs }
 
-is_of_start : (set : SetValue) (x : Record RData) (xs : List (Record RData)) → set.record_type ≡ types.SOA → set.records ≡ x ∷ xs → set ≡ of_start set x xs
+is_of_start : (set : SetValue) (x : Record RData) (xs : List (Record RData)) → set.record_type ≡ types.SOA
+    → set.records ≡ x ∷ xs → set ≡ of_start set x xs
 is_of_start set x xs type some = λ i. record set { record_type = type i; records = some i }
 
-start_rises : (set : SetValue) (x r : Record RData) (xs : List (Record RData)) (serial : ℕ) → (insert (of_start set x xs) r serial).0 ≡ true
+start_rises : (set : SetValue) (x r : Record RData) (xs : List (Record RData)) (serial : ℕ)
+    → (insert (of_start set x xs) r serial).0 ≡ true
     → IsRaised x.rdata r.rdata × ((insert (of_start set x xs) r serial).1.records ≡ r ∷ [])
 start_rises set x r xs serial h =
-    let both : (is_later x.rdata r.rdata ≡ true) × ((insert (of_start set x xs) r serial).1.records ≡ r ∷ []) = risen_by (of_start set x xs) r serial (is_later x.rdata r.rdata) h in
+    let both : (is_later x.rdata r.rdata ≡ true) × ((insert (of_start set x xs) r serial).1.records ≡ r ∷ []) =
+    risen_by (of_start set x xs) r serial (is_later x.rdata r.rdata) h in
     (raised x.rdata r.rdata both.0, both.1)
 
-pub serial_rises : (set : SetValue) (x r : Record RData) (xs : List (Record RData)) (serial : ℕ) → set.record_type ≡ types.SOA → set.records ≡ x ∷ xs
+pub serial_rises : (set : SetValue) (x r : Record RData) (xs : List (Record RData)) (serial : ℕ)
+    → set.record_type ≡ types.SOA → set.records ≡ x ∷ xs
     → (insert set r serial).0 ≡ true → IsRaised x.rdata r.rdata × ((insert set r serial).1.records ≡ r ∷ [])
 serial_rises set x r xs serial type some =
-    subst (λ s. (insert s r serial).0 ≡ true → IsRaised x.rdata r.rdata × ((insert s r serial).1.records ≡ r ∷ [])) (sym (is_of_start set x xs type some)) (start_rises set x r xs serial)
+    subst (λ s. (insert s r serial).0 ≡ true → IsRaised x.rdata r.rdata × ((insert s r serial).1.records ≡ r ∷ []))
+    (sym (is_of_start set x xs type some)) (start_rises set x r xs serial)
 
-pub serial_stays : (set : SetValue) (x r : Record RData) (xs : List (Record RData)) (serial : ℕ) → set.record_type ≡ types.SOA → set.records ≡ x ∷ xs
+pub serial_stays : (set : SetValue) (x r : Record RData) (xs : List (Record RData)) (serial : ℕ)
+    → set.record_type ≡ types.SOA → set.records ≡ x ∷ xs
     → is_later x.rdata r.rdata ≡ false → ◌≡◌ {A = Bool × SetValue} (insert set r serial) (false, set)
 serial_stays set x r xs serial type some e =
-    subst (λ s. ◌≡◌ {A = Bool × SetValue} (insert s r serial) (false, s)) (sym (is_of_start set x xs type some)) (stayed_by (of_start set x xs) r serial (is_later x.rdata r.rdata) e)
+    subst (λ s. ◌≡◌ {A = Bool × SetValue} (insert s r serial) (false, s)) (sym (is_of_start set x xs type some))
+    (stayed_by (of_start set x xs) r serial (is_later x.rdata r.rdata) e)

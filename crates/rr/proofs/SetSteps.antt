@@ -1,5 +1,6 @@
 -- Steps of putting a record among others.
-use Rattle.std.proofs.Common.{ℕ, zero, suc, Bool, true, false, not, List, [], ◌∷◌, ◌++◌, ◌≡◌, ◌<◌, ◌≤◌, ◌+◌, ◌==◌, ◌||◌, ◌&&◌, nat_eq, refl, sym, ap, subst, ◌∙◌, length}
+use Rattle.std.proofs.Common.{ℕ, zero, suc, Bool, true, false, not, List, [], ◌∷◌, ◌++◌, ◌≡◌, ◌<◌, ◌≤◌, ◌+◌, ◌==◌, ◌||◌}
+use Rattle.std.proofs.Common.{◌&&◌, nat_eq, refl, sym, ap, subst, ◌∙◌, length}
 use Rattle.std.proofs.Common.{take, drop, set, get_or, arith, if◌then◌else◌}
 use Rattle.std.specs.List.{AllByRecursion, list_any}
 use Rattle.base_data.specs.declared.rdata.RData.{RData}
@@ -8,8 +9,8 @@ use Rattle.std.proofs.lemmas.Bool.Decides.{nat_tests}
 use Rattle.std.proofs.lemmas.Bool.{cond-true, cond-false, or_parts}
 use Rattle.std.proofs.lemmas.List.{append-nil, drop_all, length-set, take_all}
 use Rattle.std.proofs.Math.Bool.{or-false, or-true}
-use Rattle.base.specs.NameOrder.{folded, same_name}
-use Rattle.base.specs.NameOrderLaws.{same_by-equiv}
+use Rattle.base.specs.names.NameOrder.{folded, same_name}
+use Rattle.base.specs.names.NameOrderLaws.{same_by-equiv}
 use Rattle.base_data.specs.Kinds.{type_of_data}
 use Rattle.rr.specs.SetChanges.{MayAdd, MayEnter, has_data_of, renewed, replaced}
 use Rattle.rr.specs.RecordOrder.{same_class}
@@ -28,34 +29,44 @@ and_yes false = refl
 pub other_ttl : (x r : Record RData) → nat_eq x.ttl r.ttl ≡ false → false ≡ (same_entry x r && nat_eq x.ttl r.ttl)
 other_ttl x r h = and_no (same_entry x r) ∙ ap (λ b. same_entry x r && b) (sym h)
 
-pub of_one_ttl : (x r : Record RData) → nat_eq x.ttl r.ttl ≡ true → same_entry x r ≡ (same_entry x r && nat_eq x.ttl r.ttl)
+pub of_one_ttl : (x r : Record RData) → nat_eq x.ttl r.ttl ≡ true
+    → same_entry x r ≡ (same_entry x r && nat_eq x.ttl r.ttl)
 of_one_ttl x r h = and_yes (same_entry x r) ∙ ap (λ b. same_entry x r && b) (sym h)
 
 pub other_class : (x r : Record RData) → same_class x.dns_class r.dns_class ≡ false → false ≡ same_entry x r
-other_class x r h = and_no (same_name x.name r.name) ∙ ap (λ b. same_name x.name r.name && (b && same_data x.rdata r.rdata)) (sym h)
+other_class x r h = and_no (same_name x.name r.name)
+    ∙ ap (λ b. same_name x.name r.name && (b && same_data x.rdata r.rdata)) (sym h)
 
-pub of_one_class : (x r : Record RData) → same_class x.dns_class r.dns_class ≡ true → same_data x.rdata r.rdata ≡ true → same_name x.name r.name ≡ same_entry x r
-of_one_class x r h d = and_yes (same_name x.name r.name) ∙ ap (λ b. same_name x.name r.name && b) (λ i. sym h i && sym d i)
+pub of_one_class : (x r : Record RData) → same_class x.dns_class r.dns_class ≡ true → same_data x.rdata r.rdata ≡ true
+    → same_name x.name r.name ≡ same_entry x r
+of_one_class x r h d = and_yes (same_name x.name r.name)
+    ∙ ap (λ b. same_name x.name r.name && b) (λ i. sym h i && sym d i)
 
-pub other_data : (x r : Record RData) → same_data x.rdata r.rdata ≡ false → false ≡ (same_entry x r && nat_eq x.ttl r.ttl)
+pub other_data : (x r : Record RData) → same_data x.rdata r.rdata ≡ false
+    → false ≡ (same_entry x r && nat_eq x.ttl r.ttl)
 other_data x r h =
     ap (λ b. b && nat_eq x.ttl r.ttl) (and_no (same_name x.name r.name) ∙ ap (λ b. same_name x.name r.name && b)
     (and_no (same_class x.dns_class r.dns_class) ∙ ap (λ b. same_class x.dns_class r.dns_class && b) (sym h)))
 
 -- one more place
-pub replaced_yes : (r : Record RData) (xs : List (Record RData)) (i : ℕ) (d : Record RData) → i < length xs → has_data_of r (get_or (replaced r (take i xs) ++ drop i xs) i d) ≡ true
+pub replaced_yes : (r : Record RData) (xs : List (Record RData)) (i : ℕ) (d : Record RData) → i < length xs
+    → has_data_of r (get_or (replaced r (take i xs) ++ drop i xs) i d) ≡ true
     → set (replaced r (take i xs) ++ drop i xs) i r ≡ replaced r (take (suc i) xs) ++ drop (suc i) xs
 replaced_yes r [] i d h e = absurd (omega arith)
 replaced_yes r (x ∷ xs) zero d h e = ap (λ y. y ∷ xs) (sym (cond-true (has_data_of r x) r x e))
-replaced_yes r (x ∷ xs) (suc i) d h e = ap (λ ys. (if has_data_of r x then r else x) ∷ ys) (replaced_yes r xs i d (omega arith) e)
+replaced_yes r (x ∷ xs) (suc i) d h e = ap (λ ys. (if has_data_of r x then r else x) ∷ ys)
+    (replaced_yes r xs i d (omega arith) e)
 
-pub replaced_no : (r : Record RData) (xs : List (Record RData)) (i : ℕ) (d : Record RData) → i < length xs → has_data_of r (get_or (replaced r (take i xs) ++ drop i xs) i d) ≡ false
+pub replaced_no : (r : Record RData) (xs : List (Record RData)) (i : ℕ) (d : Record RData) → i < length xs
+    → has_data_of r (get_or (replaced r (take i xs) ++ drop i xs) i d) ≡ false
     → replaced r (take i xs) ++ drop i xs ≡ replaced r (take (suc i) xs) ++ drop (suc i) xs
 replaced_no r [] i d h e = absurd (omega arith)
 replaced_no r (x ∷ xs) zero d h e = ap (λ y. y ∷ xs) (sym (cond-false (has_data_of r x) r x e))
-replaced_no r (x ∷ xs) (suc i) d h e = ap (λ ys. (if has_data_of r x then r else x) ∷ ys) (replaced_no r xs i d (omega arith) e)
+replaced_no r (x ∷ xs) (suc i) d h e = ap (λ ys. (if has_data_of r x then r else x) ∷ ys)
+    (replaced_no r xs i d (omega arith) e)
 
-pub replaced_none : (r : Record RData) (xs : List (Record RData)) → list_any (has_data_of r) xs ≡ false → replaced r xs ≡ xs
+pub replaced_none : (r : Record RData) (xs : List (Record RData)) → list_any (has_data_of r) xs ≡ false
+    → replaced r xs ≡ xs
 replaced_none r [] h = refl
 replaced_none r (x ∷ xs) h =
     let parts : (has_data_of r x ≡ false) × (list_any (has_data_of r) xs ≡ false) = or_parts (has_data_of r x) _ h in
@@ -63,7 +74,8 @@ replaced_none r (x ∷ xs) h =
     λ i. first i ∷ replaced_none r xs parts.1 i
 
 -- nothing is left to be replaced
-pub replaced_all : (r : Record RData) (xs : List (Record RData)) (i : ℕ) → length xs ≤ i → replaced r (take i xs) ++ drop i xs ≡ replaced r xs
+pub replaced_all : (r : Record RData) (xs : List (Record RData)) (i : ℕ) → length xs ≤ i
+    → replaced r (take i xs) ++ drop i xs ≡ replaced r xs
 replaced_all r xs i h = (λ j. replaced r (take_all i xs h j) ++ drop_all i xs h j) ∙ append-nil (replaced r xs)
 
 one_more : (i : ℕ) → suc i ≡ i + 1
@@ -73,12 +85,14 @@ pub same_clone : (a b : Record RData) → (b.rdata ≡ a.rdata) × (b ≡ record
 same_clone a b h = h.1 ∙ ap (λ (d : RData). record a { rdata = d }) h.0
 
 -- a place of which nothing was replaced yet
-past : (r : Record RData) (xs : List (Record RData)) (i : ℕ) (d : Record RData) → i < length xs → get_or (replaced r (take i xs) ++ drop i xs) i d ≡ get_or xs i d
+past : (r : Record RData) (xs : List (Record RData)) (i : ℕ) (d : Record RData) → i < length xs
+    → get_or (replaced r (take i xs) ++ drop i xs) i d ≡ get_or xs i d
 past r [] i d h = absurd (omega arith)
 past r (x ∷ xs) zero d h = refl
 past r (x ∷ xs) (suc i) d h = past r xs i d (omega arith)
 
-renewed_push : (ps : List (ℕ × Record RData)) (p : ℕ × Record RData) (xs : List (Record RData)) → renewed (ps ++ p ∷ []) xs ≡ set (renewed ps xs) p.0 p.1
+renewed_push : (ps : List (ℕ × Record RData)) (p : ℕ × Record RData) (xs : List (Record RData))
+    → renewed (ps ++ p ∷ []) xs ≡ set (renewed ps xs) p.0 p.1
 renewed_push [] p xs = refl
 renewed_push (q ∷ ps) p xs = renewed_push ps p (set xs q.0 q.1)
 
@@ -87,33 +101,43 @@ test_at : (r d : Record RData) (xs : List (Record RData)) (i : ℕ) (b : Bool) �
 test_at r d xs i b h read t = ap (has_data_of r) (past r xs i d h ∙ sym read) ∙ t
 
 -- one more copy, for a place with the same data
-pub copy_pushed : {copy d : Record RData} (r : Record RData) (xs : List (Record RData)) (ps : List (ℕ × Record RData)) (i : ℕ) → i < length xs
-    → renewed ps xs ≡ replaced r (take i xs) ++ drop i xs → d ≡ get_or xs i d → same_data d.rdata r.rdata ≡ true → copy ≡ r
+pub copy_pushed : {copy d : Record RData} (r : Record RData) (xs : List (Record RData)) (ps : List (ℕ × Record RData))
+    (i : ℕ) → i < length xs
+    → renewed ps xs ≡ replaced r (take i xs) ++ drop i xs → d ≡ get_or xs i d → same_data d.rdata r.rdata ≡ true
+    → copy ≡ r
     → renewed (ps ++ (i, copy) ∷ []) xs ≡ replaced r (take (i + 1) xs) ++ drop (i + 1) xs
 copy_pushed {copy} {d} r xs ps i h e read t same =
-    renewed_push ps (i, copy) xs ∙ (λ j. set (e j) i (same j)) ∙ replaced_yes r xs i d h (test_at r d xs i true h read t) ∙ ap (λ n. replaced r (take n xs) ++ drop n xs) (one_more i)
+    renewed_push ps (i, copy) xs ∙ (λ j. set (e j) i (same j))
+    ∙ replaced_yes r xs i d h (test_at r d xs i true h read t)
+    ∙ ap (λ n. replaced r (take n xs) ++ drop n xs) (one_more i)
 
 -- no copy, for a place with other data
-pub copy_skipped : {d : Record RData} (r : Record RData) (xs : List (Record RData)) (ps : List (ℕ × Record RData)) (i : ℕ) → i < length xs
+pub copy_skipped : {d : Record RData} (r : Record RData) (xs : List (Record RData)) (ps : List (ℕ × Record RData))
+    (i : ℕ) → i < length xs
     → renewed ps xs ≡ replaced r (take i xs) ++ drop i xs → d ≡ get_or xs i d → same_data d.rdata r.rdata ≡ false
     → renewed ps xs ≡ replaced r (take (i + 1) xs) ++ drop (i + 1) xs
 copy_skipped {d} r xs ps i h e read t =
-    e ∙ replaced_no r xs i d h (test_at r d xs i false h read t) ∙ ap (λ n. replaced r (take n xs) ++ drop n xs) (one_more i)
+    e ∙ replaced_no r xs i d h (test_at r d xs i false h read t)
+    ∙ ap (λ n. replaced r (take n xs) ++ drop n xs) (one_more i)
 
 any_at : (b c : Bool) (x : Bool) → (b || (c || x)) ≡ ((b || c) || x)
 any_at true c x = refl
 any_at false c x = refl
 
 any_next : (r : Record RData) (xs : List (Record RData)) (i : ℕ) (d : Record RData) → i < length xs
-    → list_any (has_data_of r) (take (suc i) xs) ≡ (list_any (has_data_of r) (take i xs) || has_data_of r (get_or xs i d))
+    → list_any (has_data_of r) (take (suc i) xs)
+    ≡ (list_any (has_data_of r) (take i xs) || has_data_of r (get_or xs i d))
 any_next r [] i d h = absurd (omega arith)
 any_next r (x ∷ xs) zero d h = or-false (has_data_of r x)
-any_next r (x ∷ xs) (suc i) d h = ap (λ b. has_data_of r x || b) (any_next r xs i d (omega arith)) ∙ any_at (has_data_of r x) _ _
+any_next r (x ∷ xs) (suc i) d h = ap (λ b. has_data_of r x || b) (any_next r xs i d (omega arith))
+    ∙ any_at (has_data_of r x) _ _
 
 any_upto : (r d : Record RData) (xs : List (Record RData)) (i : ℕ) (b : Bool) → i < length xs → d ≡ get_or xs i d
-    → same_data d.rdata r.rdata ≡ b → list_any (has_data_of r) (take (i + 1) xs) ≡ (list_any (has_data_of r) (take i xs) || b)
+    → same_data d.rdata r.rdata ≡ b → list_any (has_data_of r) (take (i + 1) xs)
+    ≡ (list_any (has_data_of r) (take i xs) || b)
 any_upto r d xs i b h read t =
-    ap (λ n. list_any (has_data_of r) (take n xs)) (sym (one_more i)) ∙ any_next r xs i d h ∙ ap (λ c. list_any (has_data_of r) (take i xs) || c) (ap (has_data_of r) (sym read) ∙ t)
+    ap (λ n. list_any (has_data_of r) (take n xs)) (sym (one_more i)) ∙ any_next r xs i d h
+    ∙ ap (λ c. list_any (has_data_of r) (take i xs) || c) (ap (has_data_of r) (sym read) ∙ t)
 
 no_zero : (n : ℕ) → (suc n == 0) ≡ false
 no_zero n = grind (arith, nat_tests)
@@ -123,30 +147,38 @@ not_empty [] p = refl
 not_empty (q ∷ ps) p = no_zero (length (ps ++ p ∷ []))
 
 -- a place with the same data was found
-pub any_found : (r d : Record RData) (xs : List (Record RData)) (ps : List (ℕ × Record RData)) (p : ℕ × Record RData) (i : ℕ) → i < length xs → d ≡ get_or xs i d → same_data d.rdata r.rdata ≡ true
+pub any_found : (r d : Record RData) (xs : List (Record RData)) (ps : List (ℕ × Record RData)) (p : ℕ × Record RData)
+    (i : ℕ) → i < length xs → d ≡ get_or xs i d → same_data d.rdata r.rdata ≡ true
     → (length (ps ++ p ∷ []) == 0) ≡ not (list_any (has_data_of r) (take (i + 1) xs))
-any_found r d xs ps p i h read t = not_empty ps p ∙ sym (ap not (any_upto r d xs i true h read t ∙ or-true (list_any (has_data_of r) (take i xs))))
+any_found r d xs ps p i h read t = not_empty ps p
+    ∙ sym (ap not (any_upto r d xs i true h read t ∙ or-true (list_any (has_data_of r) (take i xs))))
 
 -- there is none at this place
 pub any_passed : (r d : Record RData) (xs : List (Record RData)) (b : Bool) (i : ℕ) → i < length xs
     → b ≡ not (list_any (has_data_of r) (take i xs)) → d ≡ get_or xs i d → same_data d.rdata r.rdata ≡ false
     → b ≡ not (list_any (has_data_of r) (take (i + 1) xs))
-any_passed r d xs b i h e read t = e ∙ sym (ap not (any_upto r d xs i false h read t ∙ or-false (list_any (has_data_of r) (take i xs))))
+any_passed r d xs b i h e read t = e ∙ sym
+    (ap not (any_upto r d xs i false h read t ∙ or-false (list_any (has_data_of r) (take i xs))))
 
 pub within_push : (n : ℕ) (ps : List (ℕ × Record RData)) (p : ℕ × Record RData)
-    → AllByRecursion (λ (q : ℕ × Record RData). q.0 < n) ps → p.0 < n → AllByRecursion (λ (q : ℕ × Record RData). q.0 < n) (ps ++ p ∷ [])
+    → AllByRecursion (λ (q : ℕ × Record RData). q.0 < n) ps → p.0 < n
+    → AllByRecursion (λ (q : ℕ × Record RData). q.0 < n) (ps ++ p ∷ [])
 within_push n [] p h l = (l, tt)
 within_push n (q ∷ ps) p h l = (h.0, within_push n ps p h.1 l)
 
 -- one copy less is left
-pub renew_step : (xs ys zs : List (Record RData)) (ps qs : List (ℕ × Record RData)) (p : ℕ × Record RData) → ps ≡ p ∷ qs → ys ≡ set xs p.0 p.1 → renewed ps xs ≡ zs → renewed qs ys ≡ zs
+pub renew_step : (xs ys zs : List (Record RData)) (ps qs : List (ℕ × Record RData)) (p : ℕ × Record RData) → ps ≡ p ∷ qs
+    → ys ≡ set xs p.0 p.1 → renewed ps xs ≡ zs → renewed qs ys ≡ zs
 renew_step xs ys zs ps qs p e write h = ap (renewed qs) write ∙ ap (λ us. renewed us xs) (sym e) ∙ h
 
-pub within_first : (n : ℕ) (ps qs : List (ℕ × Record RData)) (p : ℕ × Record RData) → ps ≡ p ∷ qs → AllByRecursion (λ (q : ℕ × Record RData). q.0 < n) ps → p.0 < n
+pub within_first : (n : ℕ) (ps qs : List (ℕ × Record RData)) (p : ℕ × Record RData) → ps ≡ p ∷ qs
+    → AllByRecursion (λ (q : ℕ × Record RData). q.0 < n) ps → p.0 < n
 within_first n ps qs p e h = (subst (λ us. AllByRecursion (λ (q : ℕ × Record RData). q.0 < n) us) e h).0
 
-pub within_step : (xs ys : List (Record RData)) (ps qs : List (ℕ × Record RData)) (p : ℕ × Record RData) → ps ≡ p ∷ qs → ys ≡ set xs p.0 p.1
-    → AllByRecursion (λ (q : ℕ × Record RData). q.0 < length xs) ps → AllByRecursion (λ (q : ℕ × Record RData). q.0 < length ys) qs
+pub within_step : (xs ys : List (Record RData)) (ps qs : List (ℕ × Record RData)) (p : ℕ × Record RData) → ps ≡ p ∷ qs
+    → ys ≡ set xs p.0 p.1
+    → AllByRecursion (λ (q : ℕ × Record RData). q.0 < length xs) ps
+    → AllByRecursion (λ (q : ℕ × Record RData). q.0 < length ys) qs
 within_step xs ys ps qs p e write h =
     subst (λ n. AllByRecursion (λ (q : ℕ × Record RData). q.0 < n) qs) (sym (ap length write ∙ length-set xs p.0 p.1))
     ((subst (λ us. AllByRecursion (λ (q : ℕ × Record RData). q.0 < length xs) us) e h).1)
@@ -154,12 +186,14 @@ within_step xs ys ps qs p e write h =
 pub len_step : {X : Type 0} (m n : ℕ) (ps qs : List X) (p : X) → ps ≡ p ∷ qs → n + 1 ≡ m → m ≡ length ps → n ≡ length qs
 len_step m n ps qs p e less h = omega (arith, less, h, ap length e)
 
-pub renew_end : (xs zs : List (Record RData)) (ps : List (ℕ × Record RData)) (m : ℕ) → renewed ps xs ≡ zs → m ≡ 0 → m ≡ length ps → xs ≡ zs
+pub renew_end : (xs zs : List (Record RData)) (ps : List (ℕ × Record RData)) (m : ℕ) → renewed ps xs ≡ zs → m ≡ 0
+    → m ≡ length ps → xs ≡ zs
 renew_end xs zs [] m h none len = h
 renew_end xs zs (p ∷ ps) m h none len = absurd (omega arith)
 
 -- the record that a set makes of its data may enter it
-pub may_enter : (set : SetValue) (r : Record RData) (rdata : RData) → MayAdd set rdata → r.name ≡ set.name → r.rdata ≡ rdata → MayEnter set r
+pub may_enter : (set : SetValue) (r : Record RData) (rdata : RData) → MayAdd set rdata → r.name ≡ set.name
+    → r.rdata ≡ rdata → MayEnter set r
 may_enter set r rdata h owner own = record {
   owner = ap (same_name set.name) owner ∙ (same_by-equiv folded).refl set.name;
   own_type = ap type_of_data own ∙ h.own_type;

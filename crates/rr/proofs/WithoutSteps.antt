@@ -13,13 +13,16 @@ use Rattle.std.specs.Borrow.{Bor}
 use Rattle.std.specs.List.{filter, list_any}
 use Rattle.std.specs.Prelude.{Bool, List, [], cond, false, length, not, true, ◌<◌, ◌∷◌, ◌||◌, ◌≡◌, ◌≢◌, ◌≤◌}
 
-without_same : (rs : List (Record RData)) (p : Record RData → Bool) → ((x : Record RData) → p x ≡ not (has_data_of_one rs x)) → (xs : List (Record RData))
+without_same : (rs : List (Record RData)) (p : Record RData → Bool)
+    → ((x : Record RData) → p x ≡ not (has_data_of_one rs x)) → (xs : List (Record RData))
     → filter p xs ≡ without rs xs
 without_same rs p same [] = refl
 without_same rs p same (x ∷ xs) = λ i. cond (same x i) (x ∷ without_same rs p same xs i) (without_same rs p same xs i)
 
-without_first : (r : Record RData) (xs : List (Record RData)) → filter (λ x. not (has_data_of r x)) xs ≡ without (r ∷ []) xs
-without_first r xs = without_same (r ∷ []) (λ x. not (has_data_of r x)) (λ x. ap not (sym (or-false (has_data_of r x)))) xs
+without_first : (r : Record RData) (xs : List (Record RData))
+    → filter (λ x. not (has_data_of r x)) xs ≡ without (r ∷ []) xs
+without_first r xs = without_same (r ∷ []) (λ x. not (has_data_of r x))
+    (λ x. ap not (sym (or-false (has_data_of r x)))) xs
 
 -- of one record alone
 pub without_only : (r : Record RData) (rs xs : List (Record RData)) → r ≡ get_or rs 0 r → 1 ≤ length rs → length rs < 2
@@ -35,7 +38,8 @@ without_none rs (x ∷ xs) h =
     let parts = or_parts (has_data_of_one rs x) (list_any (has_data_of_one rs) xs) h in
     ap (λ b. cond (not b) (x ∷ without rs xs) (without rs xs)) parts.0 ∙ ap (λ ys. x ∷ ys) (without_none rs xs parts.1)
 
-fewer_at : (x : Record RData) (xs ys : List (Record RData)) (b : Bool) → length ys ≤ length xs → length (cond b (x ∷ ys) ys) ≤ length (x ∷ xs)
+fewer_at : (x : Record RData) (xs ys : List (Record RData)) (b : Bool) → length ys ≤ length xs
+    → length (cond b (x ∷ ys) ys) ≤ length (x ∷ xs)
 fewer_at x xs ys true h = omega (arith, h)
 fewer_at x xs ys false h = omega (arith, h)
 
@@ -45,12 +49,15 @@ fewer rs (x ∷ xs) = fewer_at x xs (without rs xs) (not (has_data_of_one rs x))
 
 -- where as many are left, none has such data
 none_at : (rs : List (Record RData)) (x : Record RData) (xs : List (Record RData)) (b : Bool)
-    → (length (without rs xs) ≡ length xs → list_any (has_data_of_one rs) xs ≡ false) → length (without rs xs) ≤ length xs
-    → length (cond (not b) (x ∷ without rs xs) (without rs xs)) ≡ length (x ∷ xs) → (b || list_any (has_data_of_one rs) xs) ≡ false
+    → (length (without rs xs) ≡ length xs → list_any (has_data_of_one rs) xs ≡ false)
+    → length (without rs xs) ≤ length xs
+    → length (cond (not b) (x ∷ without rs xs) (without rs xs)) ≡ length (x ∷ xs)
+    → (b || list_any (has_data_of_one rs) xs) ≡ false
 none_at rs x xs true more few e = absurd (omega (arith, few, e))
 none_at rs x xs false more few e = more (omega (arith, e))
 
-pub none_went : (rs xs : List (Record RData)) → length (without rs xs) ≡ length xs → list_any (has_data_of_one rs) xs ≡ false
+pub none_went : (rs xs : List (Record RData)) → length (without rs xs) ≡ length xs
+    → list_any (has_data_of_one rs) xs ≡ false
 none_went rs [] e = refl
 none_went rs (x ∷ xs) e = none_at rs x xs (has_data_of_one rs x) (none_went rs xs) (fewer rs xs) e
 
@@ -58,13 +65,16 @@ is_true : (b : Bool) → (b ≡ false → ⊥) → true ≡ b
 is_true true h = refl
 is_true false h = absurd (h refl)
 
-pub some_went : (rs xs : List (Record RData)) → length (without rs xs) ≢ length xs → true ≡ list_any (has_data_of_one rs) xs
+pub some_went : (rs xs : List (Record RData)) → length (without rs xs) ≢ length xs
+    → true ≡ list_any (has_data_of_one rs) xs
 some_went rs xs less = is_true _ (λ none. less (ap length (without_none rs xs none)))
 
-pub set_stays : (rs : List (Record RData)) (s : SetValue) → list_any (has_data_of_one rs) s.records ≡ false → without_data rs s ≡ s
+pub set_stays : (rs : List (Record RData)) (s : SetValue) → list_any (has_data_of_one rs) s.records ≡ false
+    → without_data rs s ≡ s
 set_stays rs s none = cond-false _ _ _ none
 
 -- by their data in order
 pub without_sorted : (ds : List (Bor RData)) (rs xs : List (Record RData)) → IsSortedDataOf ds rs
     → filter (λ x. not (list_any (λ (d : Bor RData). same_data x.rdata d.now) ds)) xs ≡ without rs xs
-without_sorted ds rs xs h = without_same rs (λ x. not (list_any (λ (d : Bor RData). same_data x.rdata d.now) ds)) (λ x. ap not (h.whole (same_data x.rdata))) xs
+without_sorted ds rs xs h = without_same rs (λ x. not (list_any (λ (d : Bor RData). same_data x.rdata d.now) ds))
+    (λ x. ap not (h.whole (same_data x.rdata))) xs

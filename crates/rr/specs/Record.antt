@@ -1,23 +1,25 @@
 -- The record word (RFC 1035, 4.1.3; an OPT record: RFC 6891, 6.1.2; the top bit of the class: RFC 6762, 10.2).
-use Rattle.std.specs.Prelude.{◌≡◌, ◌≢◌, ◌≤◌, ℕ, ◌+◌, ◌-◌, ◌<◌, ◌==◌, length, List, [], ◌∷◌, ◌++◌, codes, true, false, not, ◌&&◌, Bool, if◌then◌else◌, nat_lt, Ok, Err}
+use Rattle.std.specs.Prelude.{◌≡◌, ◌≢◌, ◌≤◌, ℕ, ◌+◌, ◌-◌, ◌<◌, ◌==◌, length, List, [], ◌∷◌, ◌++◌, codes, true, false}
+use Rattle.std.specs.Prelude.{not, ◌&&◌, Bool, if◌then◌else◌, nat_lt, Ok, Err}
 use Rattle.std.specs.Fmt.{decimal}
 use Rattle.std.specs.Int.{w16, w32, to_be_bytes}
 use Rattle.base.specs.DNSClass.{class_field, class_number, class_text, class_of, field_class, field_top, opt_class}
-use Rattle.base.specs.Faults.{IsFaulty}
-use Rattle.base.specs.Labels.{NameValue, plain_len}
-use Rattle.base.specs.NameText.{name_text}
-use Rattle.base.specs.Names.{name_at}
-use Rattle.base.specs.Reading.{Read, ◌>>=◌, place_after, number_at}
+use Rattle.base.specs.reading.Faults.{IsFaulty}
+use Rattle.base.specs.names.Labels.{NameValue, plain_len}
+use Rattle.base.specs.texts.NameText.{name_text}
+use Rattle.base.specs.reading.Names.{name_at}
+use Rattle.base.specs.reading.Reading.{Read, ◌>>=◌, place_after, number_at}
 use Rattle.base.specs.RecordType.{type_number, type_of, type_text}
-use Rattle.base.specs.Spelling.{IsNameAt}
+use Rattle.base.specs.reading.Spelling.{IsNameAt}
 use Rattle.base.specs.Words.{IsNumberAt, NameAt}
-use Rattle.base.specs.Written.{Writing, both, just, name, sized}
+use Rattle.base.specs.writing.Written.{Writing, both, just, name, sized}
 use Rattle.base.specs.declared.dns_class.DNSClass.{DNSClass}
 use Rattle.base.specs.declared.error.decode_error.DecodeError.{DecodeError}
 use Rattle.base.specs.declared.error.decode_error.DecodeError.TheVariants as faults
 use Rattle.base.specs.declared.record_type.RecordType.{RecordType}
 use Rattle.base.specs.declared.record_type.RecordType.TheVariants as types
-use Rattle.base_data.specs.Kinds.{DataWord, IsReadable, data_names, data_places, data_text, data_written, plain_data, type_of_data}
+use Rattle.base_data.specs.Kinds.{DataWord, IsReadable, data_names, data_places, data_text, data_written, plain_data}
+use Rattle.base_data.specs.Kinds.{type_of_data}
 use Rattle.base_data.specs.DataAt.{IsDataAt}
 use Rattle.base_data.specs.RData.{rdata_at}
 use Rattle.base_data.specs.declared.rdata.RData.{RData}

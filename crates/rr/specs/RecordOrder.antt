@@ -3,7 +3,7 @@ use Rattle.std.specs.Prelude.{Bool}
 use Rattle.std.specs.Ordering.{eq_of_both, nat_cmp, on, then_cmp}
 use Rattle.std.specs.declared.cmp.Ordering.{Ordering}
 use Rattle.base.specs.DNSClass.{class_cmp}
-use Rattle.base.specs.NameOrder.{name_cmp, same_name}
+use Rattle.base.specs.names.NameOrder.{name_cmp, same_name}
 use Rattle.base.specs.RecordType.{type_cmp}
 use Rattle.base.specs.contracts.dns_class.DNSClassPartialEq.TheImpl as class_eq
 use Rattle.base.specs.declared.dns_class.DNSClass.{DNSClass}

@@ -2,8 +2,8 @@
 use Rattle.std.specs.Prelude.{Bool}
 use Rattle.std.specs.Cmp.{IsEquivalence, IsTotalOrder, and_equiv, nat_cmp_total, on_equiv, on_total, then_total}
 use Rattle.base.specs.DNSClass.{class_cmp, class_number, class_rank}
-use Rattle.base.specs.NameOrder.{folded}
-use Rattle.base.specs.NameOrderLaws.{cmp_by-total, same_by-equiv}
+use Rattle.base.specs.names.NameOrder.{folded}
+use Rattle.base.specs.names.NameOrderLaws.{cmp_by-total, same_by-equiv}
 use Rattle.base.specs.RecordType.{type_cmp, type_number, type_rank}
 use Rattle.base.specs.contracts.dns_class.DNSClassEq.TheImpl.Laws.{laws-law as class_laws}
 use Rattle.base_data.specs.Kinds.{type_of_data}

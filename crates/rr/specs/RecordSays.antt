@@ -1,12 +1,12 @@
 -- What is known of what is written of a record.
 use Rattle.std.proofs.Common.{◌≡◌, ℕ, ◌+◌, ◌^◌, ◌<◌, List, [], sym, subst, arith}
 use Rattle.std.specs.Int.{w16, w32, to_be_bytes}
-use Rattle.base.specs.Labels.{AreNameLabels}
-use Rattle.base.specs.Says.{Says}
-use Rattle.base.specs.SaysName.{Says-name}
-use Rattle.base.specs.SaysParts.{Says-both, Says-number, Says-number32, Says-sized, Says-unowned, Says-weaker}
+use Rattle.base.specs.names.Labels.{AreNameLabels}
+use Rattle.base.specs.writing.Says.{Says}
+use Rattle.base.specs.writing.SaysName.{Says-name}
+use Rattle.base.specs.writing.SaysParts.{Says-both, Says-number, Says-number32, Says-sized, Says-unowned, Says-weaker}
 use Rattle.base.specs.Words.{IsNumberAt, NameAt, Number, Sized, Then}
-use Rattle.base.specs.Written.{Writing, both, just, name, sized}
+use Rattle.base.specs.writing.Written.{Writing, both, just, name, sized}
 use Rattle.base_data.specs.Kinds.{DataWord, KeptData, data_written, plain_data}
 use Rattle.base_data.specs.declared.rdata.RData.{RData}
 use Rattle.rr.specs.Record.{RecordWord, plain_record, raw_record, record_written}

@@ -5,9 +5,9 @@ use Rattle.std.specs.Ordering.{on, eq_of_both}
 use Rattle.std.specs.Cmp.{IsEquivalence, and_equiv, nat_eq_equiv, on_equiv}
 use Rattle.std.specs.Cmp.Lexicographic.{pointwise}
 use Rattle.std.proofs.lemmas.Cmp.{lists_equiv}
-use Rattle.base.specs.Labels.{NameValue}
-use Rattle.base.specs.NameOrder.{folded, same_name}
-use Rattle.base.specs.NameOrderLaws.{same_by-equiv}
+use Rattle.base.specs.names.Labels.{NameValue}
+use Rattle.base.specs.names.NameOrder.{folded, same_name}
+use Rattle.base.specs.names.NameOrderLaws.{same_by-equiv}
 use Rattle.base.specs.RecordType.{same_type}
 use Rattle.base.specs.contracts.record_type.RecordTypeEq.TheImpl.Laws.{laws-law as type_laws}
 use Rattle.base.specs.declared.dns_class.DNSClass.{DNSClass}

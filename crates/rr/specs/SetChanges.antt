@@ -1,7 +1,8 @@
 -- What goes into a record set, and what comes out (RFC 2136, 1.1.5, 3.4.2.2 and 3.4.2.4).
-use Rattle.std.specs.Prelude.{ℕ, Bool, true, false, not, List, [], ◌∷◌, ◌++◌, ◌≡◌, ◌≤◌, ◌&&◌, ◌||◌, ◌⊎◌, nat_eq, nat_le, length, set, if◌then◌else◌, Option}
+use Rattle.std.specs.Prelude.{ℕ, Bool, true, false, not, List, [], ◌∷◌, ◌++◌, ◌≡◌, ◌≤◌, ◌&&◌, ◌||◌, ◌⊎◌, nat_eq, nat_le}
+use Rattle.std.specs.Prelude.{length, set, if◌then◌else◌, Option}
 use Rattle.std.specs.List.{filter, find, list_any}
-use Rattle.base.specs.NameOrder.{same_name}
+use Rattle.base.specs.names.NameOrder.{same_name}
 use Rattle.base.specs.declared.dns_class.DNSClass.TheVariants as classes
 use Rattle.base.specs.declared.record_type.RecordType.{RecordType}
 use Rattle.base.specs.declared.record_type.RecordType.TheVariants as types

@@ -1,7 +1,7 @@
 //! Records whose data is known to be of a kind, borrowed.
 
 ghost use Rattle.std.specs.Prelude.{◌≡◌, Some, None, option_map, IfOk, MatchResult};
-ghost use Rattle.base.specs.Wire.{IsMemory};
+ghost use Rattle.base.specs.writing.Wire.{IsMemory};
 ghost use Rattle.base_data.specs.Kinds.{type_of_data};
 ghost use Rattle.rr.specs.Record.{holding};
 ghost use Rattle.rr.specs.RecordRef.{seen};

@@ -1,48 +1,12 @@
 //! What is found for a name and a type in a zone that has each thing that a lookup meets.
 
+use crate::zone::zone;
 use authority::{Found, lookup};
 use base::{Name, RecordType, RrKey};
 use rr::RecordSet;
 use std::alloc::{AllocError, Global};
 use std::collections::BTreeMap;
 use std::test::Fail;
-use txt::Parser;
-
-/// Wildcards, empty non-terminals, aliases, cuts above cuts, a cut with DS, glue.
-const ZONE: &str = "$ORIGIN example.
-$TTL 3600
-@ 7200 SOA ns1 admin 7 7200 3600 1209600 300
-@ NS ns1
-@ NS ns.elsewhere.
-@ MX 10 mail
-@ MX 20 mail.elsewhere.
-ns1 A 192.0.2.1
-www A 192.0.2.3
-www A 192.0.2.4
-www TXT \"www\"
-alias CNAME www
-alias2 CNAME ALIAS
-out CNAME www.elsewhere.
-*.wild A 192.0.2.10
-*.wild MX 10 mail
-host.wild A 192.0.2.11
-deep.ent.wild TXT \"deep\"
-*.cwild CNAME www
-sub.*.star TXT \"below\"
-a.b.ent A 192.0.2.12
-child NS ns.child
-child NS ns.other
-child NS ns.elsewhere.
-child TXT \"beside a cut\"
-ns.child A 192.0.2.20
-www.child A 192.0.2.21
-*.child A 192.0.2.22
-grand.child NS ns.grand.child
-ns.grand.child A 192.0.2.23
-kin NS ns1
-signed NS ns.elsewhere.
-signed TYPE43 \\# 4 12340801
-";
 
 /// What is asked, and what is found: which sets, and how many records they have or where they lead.
 type Row = (&'static str, RecordType, &'static str);
@@ -139,8 +103,7 @@ fn is_found(
 
 /// The first row that isn't answered so, or the number of rows.
 fn first_wrong(alloc: Global, rows: &[Row]) -> Result<usize, Fail> {
-    let includes = BTreeMap::new(alloc);
-    let (origin, sets) = Parser::new(alloc, ZONE, &includes, None).parse_generic()?;
+    let (origin, sets) = zone(alloc)?;
     for (i, row) in rows.iter().enumerate() {
         if !is_found(alloc, &origin, &sets, row)? {
             return Ok(i);

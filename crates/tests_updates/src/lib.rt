@@ -12,3 +12,5 @@ mod refused_zones;
 mod responses;
 #[cfg(test)]
 mod updates;
+#[cfg(test)]
+mod zone_faults;

@@ -7,7 +7,7 @@ pub(super) mod in_place;
 mod sections;
 
 ghost use Rattle.std.specs.Prelude.{◌≡◌, IfOk, true};
-ghost use Rattle.base.specs.NameOrder.{is_zone_of};
+ghost use Rattle.base.specs.names.NameOrder.{is_zone_of};
 
 use base::{Name, ParseError, RecordType};
 use base_data::{A, RData};

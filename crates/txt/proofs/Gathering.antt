@@ -1,5 +1,6 @@
 -- The sets that records make don't depend on the order of records of other keys.
-use Rattle.std.proofs.Common.{◌≡◌, List, [], ◌∷◌, ◌++◌, ◌+◌, get_or, arith, suc, refl, ap, sym, ◌∙◌, subst, Bool, true, false, Some, None, Option, Ok}
+use Rattle.std.proofs.Common.{◌≡◌, List, [], ◌∷◌, ◌++◌, ◌+◌, get_or, arith, suc, refl, ap, sym, ◌∙◌, subst, Bool, true}
+use Rattle.std.proofs.Common.{false, Some, None, Option, Ok}
 use Rattle.std.proofs.lemmas.Grind.{get_or_tail}
 use Rattle.std.specs.BTreeMap.{insert_entry, is_at}
 use Rattle.std.specs.Cmp.{tied_itself}
@@ -10,7 +11,7 @@ use Rattle.std.specs.Ordering.{is_eq, is_lt, ordering_reverse}
 use Rattle.std.specs.Prelude.{◌≢◌, Err, IfOk, OnOk, Result, cond, is_some, ⊤}
 use Rattle.std.specs.declared.cmp.Ordering.{Ordering}
 use Rattle.std.specs.declared.cmp.Ordering.TheVariants.{Less, Equal, Greater}
-use Rattle.base.proofs.KeyLemmas.{key_cmp-exact, key_cmp-total}
+use Rattle.base.proofs.names.KeyLemmas.{key_cmp-exact, key_cmp-total}
 use Rattle.base.specs.RrKey.{key_cmp}
 use Rattle.base.specs.declared.rr_key.RrKey.{RrKey}
 use Rattle.base_data.specs.declared.rdata.RData.{RData}
@@ -18,24 +19,29 @@ use Rattle.base_data.specs.Kinds.{type_of_data}
 use Rattle.rr.specs.RecordSet.{SetValue, is_soa, set_of}
 use Rattle.rr.specs.SetChanges.{insert}
 use Rattle.rr.specs.declared.record.Record.{Record}
-use Rattle.txt.specs.Gathered.{ComesAfter, HasLastKey, IsAscending, KeyedRecords, KnowsSoas, gathered, joined_set, with_all, with_keyed}
+use Rattle.txt.specs.Gathered.{ComesAfter, HasLastKey, IsAscending, KeyedRecords, KnowsSoas, gathered, joined_set}
+use Rattle.txt.specs.Gathered.{with_all, with_keyed}
 use Rattle.txt.specs.ZoneSets.{AreKeyed, IsKeyed, ZoneSets, sets_with, added_to, set_at}
 use Rattle.rr.specs.Record.{record_key}
 use Rattle.txt.proofs.KeptSets.{insert_kept, new_kept, same_key}
-use Rattle.txt.proofs.SetsInOrder.{AreInOrder, IsAbove, flipped_back, found_last, inserted_after, kept_front, kept_last, kept_push, last_above, last_key, none_there, order_front, order_push, put_there, set_last}
+use Rattle.txt.proofs.SetsInOrder.{AreInOrder, IsAbove, flipped_back, found_last, inserted_after, kept_front, kept_last}
+use Rattle.txt.proofs.SetsInOrder.{kept_push, last_above, last_key, none_there, order_front, order_push, put_there}
+use Rattle.txt.proofs.SetsInOrder.{set_last}
 
 own : (key : RrKey) → is_at (key_cmp key) key ≡ true
 own key = ap is_eq (tied_itself key_cmp-total key)
 
 -- what is found under a key after an entry was put under one
 pub lookup_put : {X : Type 0} (es : List (RrKey × X)) (key : RrKey) (v : X) (k : RrKey)
-    → lookup (is_at (key_cmp k)) (insert_entry key_cmp es key v) ≡ cond (is_at (key_cmp k) key) (Some v) (lookup (is_at (key_cmp k)) es)
+    → lookup (is_at (key_cmp k)) (insert_entry key_cmp es key v) ≡ cond (is_at (key_cmp k) key) (Some v)
+    (lookup (is_at (key_cmp k)) es)
 lookup_put [] key v k = refl
 lookup_put {X} (e ∷ es) key v k = go (key_cmp key e.0) refl (lookup_put es key v k) where
   at : RrKey → Bool
   at = is_at (key_cmp k)
 
-  swapped : (a b : Bool) → (a ≡ true → b ≡ true → ⊥) → (x y : Option X) (rest : Option X) → cond a x (cond b y rest) ≡ cond b y (cond a x rest)
+  swapped : (a b : Bool) → (a ≡ true → b ≡ true → ⊥) → (x y : Option X) (rest : Option X)
+      → cond a x (cond b y rest) ≡ cond b y (cond a x rest)
   swapped true true apart x y rest = absurd (apart refl refl)
   swapped true false apart x y rest = refl
   swapped false true apart x y rest = refl
@@ -47,10 +53,12 @@ lookup_put {X} (e ∷ es) key v k = go (key_cmp key e.0) refl (lookup_put es key
   twice true false same x y rest = absurd cc
   twice false true same x y rest = absurd cc
 
-  go : (o : Ordering) → key_cmp key e.0 ≡ o → lookup at (insert_entry key_cmp es key v) ≡ cond (at key) (Some v) (lookup at es)
+  go : (o : Ordering) → key_cmp key e.0 ≡ o
+      → lookup at (insert_entry key_cmp es key v) ≡ cond (at key) (Some v) (lookup at es)
       → lookup at (insert_entry key_cmp (e ∷ es) key v) ≡ cond (at key) (Some v) (lookup at (e ∷ es))
   go Less is again = rw is refl
-  go Equal is again = rw is (twice (at e.0) (at key) (ap at (sym (key_cmp-exact key e.0 is))) (Some v) (Some e.1) (lookup at es))
+  go Equal is again = rw is (twice (at e.0) (at key) (ap at (sym (key_cmp-exact key e.0 is))) (Some v) (Some e.1)
+      (lookup at es))
   go Greater is again =
       let apart : at e.0 ≡ true → at key ≡ true → ⊥ = λ one other.
       (let same : key ≡ e.0 = sym (same_key k key other) ∙ same_key k e.0 one in
@@ -58,30 +66,36 @@ lookup_put {X} (e ∷ es) key v k = go (key_cmp key e.0) refl (lookup_put es key
       rw is (ap (cond (at e.0) (Some e.1)) again ∙ swapped (at e.0) (at key) apart (Some e.1) (Some v) (lookup at es))
 
 -- ---- in order
-below_all : (a b : RrKey) → key_cmp a b ≡ Less → (ks : List RrKey) → AllByRecursion (λ q. key_cmp b q ≡ Less) ks → AllByRecursion (λ q. key_cmp a q ≡ Less) ks
+below_all : (a b : RrKey) → key_cmp a b ≡ Less → (ks : List RrKey) → AllByRecursion (λ q. key_cmp b q ≡ Less) ks
+    → AllByRecursion (λ q. key_cmp a q ≡ Less) ks
 below_all a b less [] h = tt
 below_all a b less (k ∷ ks) h = (key_cmp-total.trans a b k less h.0, below_all a b less ks h.1)
 
-keys_put : (P : RrKey → Type 0) (es : ZoneSets) (key : RrKey) (set : SetValue) → AllByRecursion P (keys_of es) → P key → AllByRecursion P (keys_of (insert_entry key_cmp es key set))
+keys_put : (P : RrKey → Type 0) (es : ZoneSets) (key : RrKey) (set : SetValue) → AllByRecursion P (keys_of es) → P key
+    → AllByRecursion P (keys_of (insert_entry key_cmp es key set))
 keys_put P [] key set h k = (k, tt)
 keys_put P (e ∷ es) key set h k = go (key_cmp key e.0) refl (keys_put P es key set h.1 k) where
-  go : (o : Ordering) → key_cmp key e.0 ≡ o → AllByRecursion P (keys_of (insert_entry key_cmp es key set)) → AllByRecursion P (keys_of (insert_entry key_cmp (e ∷ es) key set))
+  go : (o : Ordering) → key_cmp key e.0 ≡ o → AllByRecursion P (keys_of (insert_entry key_cmp es key set))
+      → AllByRecursion P (keys_of (insert_entry key_cmp (e ∷ es) key set))
   go Less is again = rw is (k, h)
   go Equal is again = rw is h
   go Greater is again = rw is (h.0, again)
 
-pub order_put : (es : ZoneSets) (key : RrKey) (set : SetValue) → AreInOrder es → AreInOrder (insert_entry key_cmp es key set)
+pub order_put : (es : ZoneSets) (key : RrKey) (set : SetValue) → AreInOrder es
+    → AreInOrder (insert_entry key_cmp es key set)
 unfolding IsStrictlySortedBy
 order_put [] key set order = (tt, tt)
 order_put (e ∷ es) key set order = go (key_cmp key e.0) refl (order_put es key set order.1) where
-  go : (o : Ordering) → key_cmp key e.0 ≡ o → AreInOrder (insert_entry key_cmp es key set) → AreInOrder (insert_entry key_cmp (e ∷ es) key set)
+  go : (o : Ordering) → key_cmp key e.0 ≡ o → AreInOrder (insert_entry key_cmp es key set)
+      → AreInOrder (insert_entry key_cmp (e ∷ es) key set)
   go Less is again = rw is ((is, below_all key e.0 is (keys_of es) order.0), order)
   go Equal is again = rw is order
   go Greater is again = rw is (keys_put (λ q. key_cmp e.0 q ≡ Less) es key set order.0 (flipped_back key e.0 is), again)
 
 order_all : (sets : ZoneSets) (es : KeyedRecords) → AreInOrder sets → AreInOrder (with_all sets es)
 order_all sets [] order = order
-order_all sets (e ∷ es) order = order_all (with_keyed sets e) es (order_put sets e.0 (joined_set (set_at sets e.0) e.1) order)
+order_all sets (e ∷ es) order = order_all (with_keyed sets e) es
+    (order_put sets e.0 (joined_set (set_at sets e.0) e.1) order)
 
 pub none_in_order : AreInOrder []
 unfolding IsStrictlySortedBy
@@ -91,14 +105,16 @@ pub gathered_in_order : (es : KeyedRecords) → AreInOrder (gathered es)
 gathered_in_order es = order_all [] es none_in_order
 
 -- ---- sets in order are those that are found
-none_above : (es : ZoneSets) (key : RrKey) → AllByRecursion (λ q. key_cmp key q ≡ Less) (keys_of es) → set_at es key ≡ None
+none_above : (es : ZoneSets) (key : RrKey) → AllByRecursion (λ q. key_cmp key q ≡ Less) (keys_of es)
+    → set_at es key ≡ None
 none_above [] key h = refl
 none_above (e ∷ es) key h = rw h.0 (none_above es key h.1)
 
 found_first : (e : RrKey × SetValue) (es : ZoneSets) → set_at (e ∷ es) e.0 ≡ Some e.1
 found_first e es = rw (own e.0) refl
 
-same_lookups : (xs ys : ZoneSets) → AreInOrder xs → AreInOrder ys → ((key : RrKey) → set_at xs key ≡ set_at ys key) → xs ≡ ys
+same_lookups : (xs ys : ZoneSets) → AreInOrder xs → AreInOrder ys → ((key : RrKey) → set_at xs key ≡ set_at ys key)
+    → xs ≡ ys
 unfolding IsStrictlySortedBy
 same_lookups [] [] xo yo h = refl
 same_lookups [] (y ∷ ys) xo yo h = let no : None ≡ Some y.1 = h y.0 ∙ found_first y ys in absurd cc
@@ -116,18 +132,22 @@ same_lookups (x ∷ xs) (y ∷ ys) xo yo h = go (key_cmp x.0 y.0) refl (same_loo
         let right : set_at (y ∷ ys) key ≡ set_at ys key = rw other refl in
         sym left ∙ h key ∙ right
 
-  go : (o : Ordering) → key_cmp x.0 y.0 ≡ o → (((key : RrKey) → set_at xs key ≡ set_at ys key) → xs ≡ ys) → x ∷ xs ≡ y ∷ ys
+  go : (o : Ordering) → key_cmp x.0 y.0 ≡ o → (((key : RrKey) → set_at xs key ≡ set_at ys key) → xs ≡ ys)
+      → x ∷ xs ≡ y ∷ ys
   go Less is again =
-      let no : Some x.1 ≡ None = sym (found_first x xs) ∙ h x.0 ∙ none_above (y ∷ ys) x.0 (is, below_all x.0 y.0 is (keys_of ys) yo.0) in absurd cc
+      let no : Some x.1 ≡ None = sym (found_first x xs) ∙ h x.0
+      ∙ none_above (y ∷ ys) x.0 (is, below_all x.0 y.0 is (keys_of ys) yo.0) in absurd cc
   go Greater is again =
       let less = flipped_back x.0 y.0 is in
-      let no : None ≡ Some y.1 = sym (none_above (x ∷ xs) y.0 (less, below_all y.0 x.0 less (keys_of xs) xo.0)) ∙ h y.0 ∙ found_first y ys in absurd cc
+      let no : None ≡ Some y.1 = sym (none_above (x ∷ xs) y.0 (less, below_all y.0 x.0 less (keys_of xs) xo.0)) ∙ h y.0
+      ∙ found_first y ys in absurd cc
   go Equal is again =
       let same : x.0 ≡ y.0 = key_cmp-exact x.0 y.0 is in
       let sets : Some x.1 ≡ Some y.1 = sym (found_first x xs) ∙ h x.0 ∙ ap (set_at (y ∷ ys)) same ∙ found_first y ys in
       let rest : xs ≡ ys = again (tails same) in
       let one : x.1 ≡ y.1 = cc in
-      ap (λ (k : RrKey). (k, x.1) ∷ xs) same ∙ ap (λ (set : SetValue). (y.0, set) ∷ xs) one ∙ ap (λ (zs : ZoneSets). y ∷ zs) rest
+      ap (λ (k : RrKey). (k, x.1) ∷ xs) same ∙ ap (λ (set : SetValue). (y.0, set) ∷ xs) one
+      ∙ ap (λ (zs : ZoneSets). y ∷ zs) rest
 
 -- ---- what is found
 joined_all : Option SetValue → KeyedRecords → Option SetValue
@@ -137,20 +157,26 @@ joined_all found (e ∷ es) = joined_all (Some (joined_set found e.1)) es
 of_key : RrKey → RrKey × Record RData → Bool
 of_key key e = is_at (key_cmp key) e.0
 
-found_all : (sets : ZoneSets) (es : KeyedRecords) (key : RrKey) → set_at (with_all sets es) key ≡ joined_all (set_at sets key) (filter (of_key key) es)
+found_all : (sets : ZoneSets) (es : KeyedRecords) (key : RrKey)
+    → set_at (with_all sets es) key ≡ joined_all (set_at sets key) (filter (of_key key) es)
 unfolding joined_all of_key
 found_all sets [] key = refl
 found_all sets (e ∷ es) key = found_all (with_keyed sets e) es key ∙ go (is_at (key_cmp key) e.0) refl where
-  put : set_at (with_keyed sets e) key ≡ cond (is_at (key_cmp key) e.0) (Some (joined_set (set_at sets e.0) e.1)) (set_at sets key)
+  put : set_at (with_keyed sets e) key ≡ cond (is_at (key_cmp key) e.0) (Some (joined_set (set_at sets e.0) e.1))
+      (set_at sets key)
   put = lookup_put sets e.0 (joined_set (set_at sets e.0) e.1) key
 
-  go : (b : Bool) → is_at (key_cmp key) e.0 ≡ b → joined_all (set_at (with_keyed sets e) key) (filter (of_key key) es) ≡ joined_all (set_at sets key) (filter (of_key key) (e ∷ es))
+  go : (b : Bool) → is_at (key_cmp key) e.0 ≡ b
+      → joined_all (set_at (with_keyed sets e) key) (filter (of_key key) es) ≡ joined_all (set_at sets key)
+      (filter (of_key key) (e ∷ es))
   go true is =
       let here : set_at (with_keyed sets e) key ≡ Some (joined_set (set_at sets key) e.1) =
-      put ∙ ap (λ b. cond b (Some (joined_set (set_at sets e.0) e.1)) (set_at sets key)) is ∙ ap (λ q. Some (joined_set (set_at sets q) e.1)) (sym (same_key key e.0 is)) in
+      put ∙ ap (λ b. cond b (Some (joined_set (set_at sets e.0) e.1)) (set_at sets key)) is
+      ∙ ap (λ q. Some (joined_set (set_at sets q) e.1)) (sym (same_key key e.0 is)) in
       ap (λ o. joined_all o (filter (of_key key) es)) here ∙ rw is refl
   go false is =
-      let there : set_at (with_keyed sets e) key ≡ set_at sets key = put ∙ ap (λ b. cond b (Some (joined_set (set_at sets e.0) e.1)) (set_at sets key)) is in
+      let there : set_at (with_keyed sets e) key ≡ set_at sets key =
+      put ∙ ap (λ b. cond b (Some (joined_set (set_at sets e.0) e.1)) (set_at sets key)) is in
       ap (λ o. joined_all o (filter (of_key key) es)) there ∙ rw is refl
 
 -- ---- records in another order
@@ -161,20 +187,25 @@ ties_at : (a b : RrKey × Record RData) → ties is_below a b ≡ is_at (key_cmp
 ties_at a b = go (key_cmp a.0 b.0) refl where
   go : (o : Ordering) → key_cmp a.0 b.0 ≡ o → ties is_below a b ≡ is_at (key_cmp a.0) b.0
   go Less is = rw is refl
-  go Equal is = let back : key_cmp b.0 a.0 ≡ Equal = key_cmp-total.antisymm b.0 a.0 ∙ ap ordering_reverse is in rw (is, back) refl
+  go Equal is = let back : key_cmp b.0 a.0 ≡ Equal = key_cmp-total.antisymm b.0 a.0 ∙ ap ordering_reverse is in
+      rw (is, back) refl
   go Greater is = let back : key_cmp b.0 a.0 ≡ Less = flipped_back a.0 b.0 is in rw (is, back) refl
 
-filter_same : (p q : RrKey × Record RData → Bool) → ((e : RrKey × Record RData) → p e ≡ q e) → (es : KeyedRecords) → filter p es ≡ filter q es
+filter_same : (p q : RrKey × Record RData → Bool) → ((e : RrKey × Record RData) → p e ≡ q e) → (es : KeyedRecords)
+    → filter p es ≡ filter q es
 filter_same p q same [] = refl
-filter_same p q same (e ∷ es) = ap (λ b. cond b (e ∷ filter p es) (filter p es)) (same e) ∙ ap (λ zs. cond (q e) (e ∷ zs) zs) (filter_same p q same es)
+filter_same p q same (e ∷ es) = ap (λ b. cond b (e ∷ filter p es) (filter p es)) (same e)
+    ∙ ap (λ zs. cond (q e) (e ∷ zs) zs) (filter_same p q same es)
 
-filters : (r : Record RData) (xs ys : KeyedRecords) → IsStableBy is_below xs ys → (key : RrKey) → filter (of_key key) ys ≡ filter (of_key key) xs
+filters : (r : Record RData) (xs ys : KeyedRecords) → IsStableBy is_below xs ys → (key : RrKey)
+    → filter (of_key key) ys ≡ filter (of_key key) xs
 unfolding of_key
 filters r xs ys stable key =
     filter_same (of_key key) (ties is_below (key, r)) (λ e. sym (ties_at (key, r) e)) ys ∙ stable (key, r)
     ∙ filter_same (ties is_below (key, r)) (of_key key) (λ e. ties_at (key, r) e) xs
 
-alike : (xs ys : KeyedRecords) → ((key : RrKey) → filter (of_key key) ys ≡ filter (of_key key) xs) → gathered ys ≡ gathered xs
+alike : (xs ys : KeyedRecords) → ((key : RrKey) → filter (of_key key) ys ≡ filter (of_key key) xs)
+    → gathered ys ≡ gathered xs
 alike xs ys same =
     same_lookups (gathered ys) (gathered xs) (gathered_in_order ys) (gathered_in_order xs)
     (λ key. found_all [] ys key ∙ ap (joined_all None) (same key) ∙ sym (found_all [] xs key))
@@ -186,34 +217,43 @@ gathered_stable (x ∷ xs) ys stable = alike (x ∷ xs) ys (filters x.1 (x ∷ x
 gathered_stable [] (y ∷ ys) stable = alike [] (y ∷ ys) (filters y.1 [] (y ∷ ys) stable)
 
 -- ---- one record more
-pub with_last : (sets : ZoneSets) (es : KeyedRecords) (e : RrKey × Record RData) → with_all sets (es ++ e ∷ []) ≡ with_keyed (with_all sets es) e
+pub with_last : (sets : ZoneSets) (es : KeyedRecords) (e : RrKey × Record RData)
+    → with_all sets (es ++ e ∷ []) ≡ with_keyed (with_all sets es) e
 with_last sets [] e = refl
 with_last sets (x ∷ es) e = with_last (with_keyed sets x) es e
 
 -- a record of the last key joins the last set
-pub joined_last : (sets : ZoneSets) (key : RrKey) (set : SetValue) (r : Record RData) → AreInOrder (sets ++ (key, set) ∷ [])
+pub joined_last : (sets : ZoneSets) (key : RrKey) (set : SetValue) (r : Record RData)
+    → AreInOrder (sets ++ (key, set) ∷ [])
     → with_keyed (sets ++ (key, set) ∷ []) (key, r) ≡ sets ++ (key, (insert set r 0).1) ∷ []
 joined_last sets key set r order =
     let above : IsAbove key sets = last_above sets key set order in
     let there = found_last sets key set above in
     ap (λ o. insert_entry key_cmp (sets ++ (key, set) ∷ []) key (joined_set o r)) there
-    ∙ put_there (sets ++ (key, set) ∷ []) key set (insert set r 0).1 order there ∙ set_last sets key set (insert set r 0).1 above
+    ∙ put_there (sets ++ (key, set) ∷ []) key set (insert set r 0).1 order there
+    ∙ set_last sets key set (insert set r 0).1 above
 
 -- a record above all makes a set after the others
-pub new_last : (sets : ZoneSets) (key : RrKey) (r : Record RData) → IsAbove key sets → with_keyed sets (key, r) ≡ sets ++ (key, set_of r) ∷ []
+pub new_last : (sets : ZoneSets) (key : RrKey) (r : Record RData) → IsAbove key sets
+    → with_keyed sets (key, r) ≡ sets ++ (key, set_of r) ∷ []
 new_last sets key r above =
-    ap (λ o. insert_entry key_cmp sets key (joined_set o r)) (none_there sets key above) ∙ inserted_after sets key (set_of r) above
+    ap (λ o. insert_entry key_cmp sets key (joined_set o r)) (none_there sets key above)
+    ∙ inserted_after sets key (set_of r) above
 
 -- ---- what a record makes of the sets
-keyed : (sets : ZoneSets) (key : RrKey) (r : Record RData) → key ≡ record_key r → with_keyed sets (record_key r, r) ≡ with_keyed sets (key, r)
+keyed : (sets : ZoneSets) (key : RrKey) (r : Record RData) → key ≡ record_key r
+    → with_keyed sets (record_key r, r) ≡ with_keyed sets (key, r)
 keyed sets key r is = ap (λ (k : RrKey). with_keyed sets (k, r)) (sym is)
 
-pub added_new : (sets : ZoneSets) (key : RrKey) (r : Record RData) → key ≡ record_key r → set_at sets key ≡ None → sets_with sets r ≡ Ok (with_keyed sets (key, r))
+pub added_new : (sets : ZoneSets) (key : RrKey) (r : Record RData) → key ≡ record_key r → set_at sets key ≡ None
+    → sets_with sets r ≡ Ok (with_keyed sets (key, r))
 added_new sets key r is none =
     let there : set_at sets (record_key r) ≡ None = ap (set_at sets) (sym is) ∙ none in
-    ap (added_to sets r) there ∙ ap (λ o. Ok (insert_entry key_cmp sets (record_key r) (joined_set o r))) (sym there) ∙ ap Ok (keyed sets key r is)
+    ap (added_to sets r) there ∙ ap (λ o. Ok (insert_entry key_cmp sets (record_key r) (joined_set o r))) (sym there)
+    ∙ ap Ok (keyed sets key r is)
 
-pub added_other : (sets : ZoneSets) (key : RrKey) (r : Record RData) → key ≡ record_key r → is_soa (type_of_data r.rdata) ≡ false → AreInOrder sets
+pub added_other : (sets : ZoneSets) (key : RrKey) (r : Record RData) → key ≡ record_key r
+    → is_soa (type_of_data r.rdata) ≡ false → AreInOrder sets
     → sets_with sets r ≡ Ok (with_keyed sets (key, r))
 added_other sets key r is other order = go (set_at sets (record_key r)) refl where
   go : (o : Option SetValue) → set_at sets (record_key r) ≡ o → sets_with sets r ≡ Ok (with_keyed sets (key, r))
@@ -221,34 +261,45 @@ added_other sets key r is other order = go (set_at sets (record_key r)) refl whe
   go (Some set) there =
       let made : added_to sets r (Some set) ≡ Ok (insert_entry key_cmp sets (record_key r) (insert set r 0).1) =
       rw other (ap Ok (sym (put_there sets (record_key r) set (insert set r 0).1 order there))) in
-      ap (added_to sets r) there ∙ made ∙ ap (λ o. Ok (insert_entry key_cmp sets (record_key r) (joined_set o r))) (sym there) ∙ ap Ok (keyed sets key r is)
+      ap (added_to sets r) there ∙ made ∙ ap (λ o. Ok (insert_entry key_cmp sets (record_key r) (joined_set o r)))
+      (sym there) ∙ ap Ok (keyed sets key r is)
 
 none_of : {X : Type 0} (o : Option X) → is_some o ≡ false → o ≡ None
 none_of None is = refl
 none_of (Some x) is = absurd cc
 
-pub added_unknown : (sets : ZoneSets) (key : RrKey) (r : Record RData) → key ≡ record_key r → is_some (set_at sets key) ≡ false → sets_with sets r ≡ Ok (with_keyed sets (key, r))
+pub added_unknown : (sets : ZoneSets) (key : RrKey) (r : Record RData) → key ≡ record_key r
+    → is_some (set_at sets key) ≡ false → sets_with sets r ≡ Ok (with_keyed sets (key, r))
 added_unknown sets key r is none = added_new sets key r is (none_of (set_at sets key) none)
 
 -- ---- the keys of SOA records
 found_after : (es : KeyedRecords) (e : RrKey × Record RData) (key : RrKey)
-    → set_at (gathered (es ++ e ∷ [])) key ≡ cond (is_at (key_cmp key) e.0) (Some (joined_set (set_at (gathered es) e.0) e.1)) (set_at (gathered es) key)
-found_after es e key = ap (λ (zs : ZoneSets). set_at zs key) (with_last [] es e) ∙ lookup_put (gathered es) e.0 (joined_set (set_at (gathered es) e.0) e.1) key
+    → set_at (gathered (es ++ e ∷ [])) key ≡ cond (is_at (key_cmp key) e.0)
+    (Some (joined_set (set_at (gathered es) e.0) e.1)) (set_at (gathered es) key)
+found_after es e key = ap (λ (zs : ZoneSets). set_at zs key) (with_last [] es e)
+    ∙ lookup_put (gathered es) e.0 (joined_set (set_at (gathered es) e.0) e.1) key
 
-pub knows_other : (soas : List (RrKey × ⊤)) (es : KeyedRecords) (e : RrKey × Record RData) → is_soa e.0.record_type ≡ false → KnowsSoas soas es → KnowsSoas soas (es ++ e ∷ [])
+pub knows_other : (soas : List (RrKey × ⊤)) (es : KeyedRecords) (e : RrKey × Record RData)
+    → is_soa e.0.record_type ≡ false → KnowsSoas soas es → KnowsSoas soas (es ++ e ∷ [])
 knows_other soas es e other knows key soa = knows key soa ∙ sym (go (is_at (key_cmp key) e.0) refl) where
-  go : (b : Bool) → is_at (key_cmp key) e.0 ≡ b → is_some (set_at (gathered (es ++ e ∷ [])) key) ≡ is_some (set_at (gathered es) key)
+  go : (b : Bool) → is_at (key_cmp key) e.0 ≡ b
+      → is_some (set_at (gathered (es ++ e ∷ [])) key) ≡ is_some (set_at (gathered es) key)
   go true is =
-      let both : is_soa key.record_type ≡ false = ap (λ (k : RrKey). is_soa k.record_type) (same_key key e.0 is) ∙ other in
+      let both : is_soa key.record_type ≡ false =
+      ap (λ (k : RrKey). is_soa k.record_type) (same_key key e.0 is) ∙ other in
       let clash : true ≡ false = sym soa ∙ both in absurd cc
-  go false is = ap is_some (found_after es e key ∙ ap (λ b. cond b (Some (joined_set (set_at (gathered es) e.0) e.1)) (set_at (gathered es) key)) is)
+  go false is = ap is_some (found_after es e key
+      ∙ ap (λ b. cond b (Some (joined_set (set_at (gathered es) e.0) e.1)) (set_at (gathered es) key)) is)
 
-pub knows_new : (soas : List (RrKey × ⊤)) (es : KeyedRecords) (e : RrKey × Record RData) (u : ⊤) → KnowsSoas soas es → KnowsSoas (insert_entry key_cmp soas e.0 u) (es ++ e ∷ [])
-knows_new soas es e u knows key soa = ap is_some (lookup_put soas e.0 u key) ∙ go (is_at (key_cmp key) e.0) (knows key soa) ∙ sym (ap is_some (found_after es e key)) where
-  go : (b : Bool) → is_some (lookup (is_at (key_cmp key)) soas) ≡ is_some (set_at (gathered es) key)
-      → is_some (cond b (Some u) (lookup (is_at (key_cmp key)) soas)) ≡ is_some (cond b (Some (joined_set (set_at (gathered es) e.0) e.1)) (set_at (gathered es) key))
-  go true same = refl
-  go false same = same
+pub knows_new : (soas : List (RrKey × ⊤)) (es : KeyedRecords) (e : RrKey × Record RData) (u : ⊤) → KnowsSoas soas es
+    → KnowsSoas (insert_entry key_cmp soas e.0 u) (es ++ e ∷ [])
+knows_new soas es e u knows key soa = ap is_some (lookup_put soas e.0 u key)
+    ∙ go (is_at (key_cmp key) e.0) (knows key soa) ∙ sym (ap is_some (found_after es e key)) where
+      go : (b : Bool) → is_some (lookup (is_at (key_cmp key)) soas) ≡ is_some (set_at (gathered es) key)
+          → is_some (cond b (Some u) (lookup (is_at (key_cmp key)) soas)) ≡ is_some
+          (cond b (Some (joined_set (set_at (gathered es) e.0) e.1)) (set_at (gathered es) key))
+      go true same = refl
+      go false same = same
 
 -- ---- a run with one record more
 -- what a record makes of a run
@@ -259,25 +310,33 @@ pub record IsGrown (run : ZoneSets) (key : RrKey) (r : Record RData) (after : Zo
   pub last : HasLastKey after key
 
 -- a record that joins the last set
-pub joins : (run front : ZoneSets) (key : RrKey) (set new : SetValue) (r : Record RData) → run ≡ front ++ (key, set) ∷ [] → key ≡ record_key r
-    → new ≡ (insert set r 0).1 → AreKeyed run → AreInOrder run → (after : ZoneSets) → after ≡ front ++ (key, new) ∷ [] → IsGrown run key r after
+pub joins : (run front : ZoneSets) (key : RrKey) (set new : SetValue) (r : Record RData)
+    → run ≡ front ++ (key, set) ∷ [] → key ≡ record_key r
+    → new ≡ (insert set r 0).1 → AreKeyed run → AreInOrder run → (after : ZoneSets) → after ≡ front ++ (key, new) ∷ []
+    → IsGrown run key r after
 joins run front key set new r is own_key changed kept order after made =
     let there : AreKeyed (front ++ (key, set) ∷ []) = subst AreKeyed is kept in
     let in_order : AreInOrder (front ++ (key, set) ∷ []) = subst AreInOrder is order in
-    let old : IsKeyed (record_key r) set = subst (λ (k : RrKey). IsKeyed k set) own_key (kept_last [] front (key, set) there) in
-    let one : IsKeyed key new = subst (λ (k : RrKey). IsKeyed k new) (sym own_key) (subst (IsKeyed (record_key r)) (sym changed) (insert_kept set r old)) in
+    let old : IsKeyed (record_key r) set = subst (λ (k : RrKey). IsKeyed k set) own_key
+    (kept_last [] front (key, set) there) in
+    let one : IsKeyed key new = subst (λ (k : RrKey). IsKeyed k new) (sym own_key)
+    (subst (IsKeyed (record_key r)) (sym changed) (insert_kept set r old)) in
     record {
-      sets = made ∙ ap (λ (s : SetValue). front ++ (key, s) ∷ []) changed ∙ sym (joined_last front key set r in_order) ∙ ap (λ (zs : ZoneSets). with_keyed zs (key, r)) (sym is);
+      sets = made ∙ ap (λ (s : SetValue). front ++ (key, s) ∷ []) changed ∙ sym (joined_last front key set r in_order)
+          ∙ ap (λ (zs : ZoneSets). with_keyed zs (key, r)) (sym is);
       kept = subst AreKeyed (sym made) (kept_push front key new (kept_front front ((key, set) ∷ []) there) one);
-      ordered = subst AreInOrder (sym made) (order_push front key new (order_front front ((key, set) ∷ []) in_order) (last_above front key set in_order));
+      ordered = subst AreInOrder (sym made) (order_push front key new (order_front front ((key, set) ∷ []) in_order)
+          (last_above front key set in_order));
       last = subst (λ (zs : ZoneSets). HasLastKey zs key) (sym made) (last_key front (key, new));
     }
 
 -- a record above all
-pub follows : (run : ZoneSets) (key : RrKey) (set : SetValue) (r : Record RData) → key ≡ record_key r → set ≡ set_of r → IsAbove key run
+pub follows : (run : ZoneSets) (key : RrKey) (set : SetValue) (r : Record RData) → key ≡ record_key r → set ≡ set_of r
+    → IsAbove key run
     → AreKeyed run → AreInOrder run → (after : ZoneSets) → after ≡ run ++ (key, set) ∷ [] → IsGrown run key r after
 follows run key set r own_key is above kept order after made =
-    let one : IsKeyed key set = subst (λ (k : RrKey). IsKeyed k set) (sym own_key) (subst (IsKeyed (record_key r)) (sym is) (new_kept r)) in
+    let one : IsKeyed key set = subst (λ (k : RrKey). IsKeyed k set) (sym own_key)
+    (subst (IsKeyed (record_key r)) (sym is) (new_kept r)) in
     record {
       sets = made ∙ ap (λ (s : SetValue). run ++ (key, s) ∷ []) is ∙ sym (new_last run key r above);
       kept = subst AreKeyed (sym made) (kept_push run key set kept one);
@@ -294,7 +353,8 @@ pub none_follows : (es : KeyedRecords) → FirstFollows [] es
 none_follows [] = tt
 none_follows (e ∷ es) = λ x at. let none : None ≡ Some x = at in absurd cc
 
-pub first_follows : (run : ZoneSets) (e : RrKey × Record RData) (es : KeyedRecords) → IsAscending (e ∷ es) → HasLastKey run e.0 → FirstFollows run es
+pub first_follows : (run : ZoneSets) (e : RrKey × Record RData) (es : KeyedRecords) → IsAscending (e ∷ es)
+    → HasLastKey run e.0 → FirstFollows run es
 first_follows run e [] up last = tt
 first_follows run e (f ∷ es) up last = λ x at. subst (λ (k : RrKey). key_cmp f.0 k ≢ Less) (sym (last x at)) up.0
 
@@ -309,15 +369,19 @@ ascending (e ∷ []) sorted = tt
 ascending (e ∷ f ∷ es) sorted = (
   λ less. let below : true ≡ false = sym (ap is_lt less) ∙ sorted 0 e (omega arith) (omega arith) in cc,
   ascending (f ∷ es) (λ k d from to.
-      let high : get_or (f ∷ es) (k + 1) d ≡ get_or (e ∷ f ∷ es) (suc k + 1) d = ap (λ i. get_or (f ∷ es) i d) (omega arith) ∙ sym (get_or_tail e (f ∷ es) (suc k + 1) d (omega arith)) in
-      let low : get_or (f ∷ es) k d ≡ get_or (e ∷ f ∷ es) (suc k) d = ap (λ i. get_or (f ∷ es) i d) (omega arith) ∙ sym (get_or_tail e (f ∷ es) (suc k) d (omega arith)) in
-      ap (λ x. is_below x (get_or (f ∷ es) k d)) high ∙ ap (is_below (get_or (e ∷ f ∷ es) (suc k + 1) d)) low ∙ sorted (suc k) d (omega arith) (omega (arith, to))),
+      let high : get_or (f ∷ es) (k + 1) d ≡ get_or (e ∷ f ∷ es) (suc k + 1) d =
+      ap (λ i. get_or (f ∷ es) i d) (omega arith) ∙ sym (get_or_tail e (f ∷ es) (suc k + 1) d (omega arith)) in
+      let low : get_or (f ∷ es) k d ≡ get_or (e ∷ f ∷ es) (suc k) d =
+      ap (λ i. get_or (f ∷ es) i d) (omega arith) ∙ sym (get_or_tail e (f ∷ es) (suc k) d (omega arith)) in
+      ap (λ x. is_below x (get_or (f ∷ es) k d)) high ∙ ap (is_below (get_or (e ∷ f ∷ es) (suc k + 1) d)) low
+      ∙ sorted (suc k) d (omega arith) (omega (arith, to))),
 )
 
 pub on_ok : {X E P Q : Type 0} (result : Result X E) → (P → Q) → OnOk result P → OnOk result Q
 on_ok (Ok x) f h = f h
 on_ok (Err e) f h = tt
 
-pub if_ok : {X E : Type 0} {P Q : X → Type 0} (result : Result X E) → ((x : X) → P x → Q x) → IfOk result P → IfOk result Q
+pub if_ok : {X E : Type 0} {P Q : X → Type 0} (result : Result X E) → ((x : X) → P x → Q x) → IfOk result P
+    → IfOk result Q
 if_ok (Ok x) f h = f x h
 if_ok (Err e) f h = tt

@@ -1,5 +1,6 @@
 -- The sets of a zone stay as they stand under their keys.
-use Rattle.std.proofs.Common.{◌≡◌, ◌≢◌, ◌≤◌, ◌++◌, List, [], ◌∷◌, length, refl, ap, sym, subst, arith, Bool, true, false}
+use Rattle.std.proofs.Common.{◌≡◌, ◌≢◌, ◌≤◌, ◌++◌, List, [], ◌∷◌, length, refl, ap, sym, subst, arith, Bool, true}
+use Rattle.std.proofs.Common.{false}
 use Rattle.std.specs.BTreeMap.{is_at}
 use Rattle.std.specs.Bool.{beq}
 use Rattle.std.specs.List.{AllByRecursion, list_any}
@@ -7,10 +8,10 @@ use Rattle.std.specs.Ordering.{is_eq}
 use Rattle.std.specs.Prelude.{◌&&◌, if◌then◌else◌}
 use Rattle.std.specs.declared.cmp.Ordering.{Ordering}
 use Rattle.std.specs.declared.cmp.Ordering.TheVariants.{Less, Equal, Greater}
-use Rattle.base.proofs.KeyLemmas.{key_cmp-exact}
-use Rattle.base.specs.Labels.{NameValue}
-use Rattle.base.specs.NameOrder.{folded, lowered, same_labels, same_name}
-use Rattle.base.specs.NameOrderLaws.{same_by-equiv}
+use Rattle.base.proofs.names.KeyLemmas.{key_cmp-exact}
+use Rattle.base.specs.names.Labels.{NameValue}
+use Rattle.base.specs.names.NameOrder.{folded, lowered, same_labels, same_name}
+use Rattle.base.specs.names.NameOrderLaws.{same_by-equiv}
 use Rattle.base.specs.RrKey.{key_cmp, key_of}
 use Rattle.base.specs.declared.rr_key.RrKey.{RrKey}
 use Rattle.base_data.specs.declared.rdata.RData.{RData}
@@ -32,7 +33,8 @@ same_key a b is = key_cmp-exact a b (equal (key_cmp a b) is) where
 -- names of one lower case are the same
 same_of_lower : (a b : NameValue) → lowered a ≡ lowered b → same_name a b ≡ true
 same_of_lower a b is =
-    subst (λ (n : NameValue). (beq n.absolute b.absolute && same_labels n.labels (folded b)) ≡ true) (sym is) ((same_by-equiv folded).refl b)
+    subst (λ (n : NameValue). (beq n.absolute b.absolute && same_labels n.labels (folded b)) ≡ true) (sym is)
+    ((same_by-equiv folded).refl b)
 
 -- a record may enter the set that is kept under its key
 pub enters : (set : SetValue) (r : Record RData) → IsKeyed (record_key r) set → MayEnter set r
@@ -44,9 +46,11 @@ enters set r kept = record {
 
 -- what holds of a set, and of the set that the record was joined to, holds after `insert`
 insert_cases : (P : SetValue → Type 0) (set : SetValue) (r : Record RData) → P set
-    → P (record set { records = joined r (beside set.record_type set.records); ttl = r.ttl; serial = 0 }) → P (insert set r 0).1
+    → P (record set { records = joined r (beside set.record_type set.records); ttl = r.ttl; serial = 0 })
+    → P (insert set r 0).1
 insert_cases P set r same changed = go (is_left set.record_type set.records r) where
-  go : (b : Bool) → P (if◌then◌else◌ {A = Bool × SetValue} b (false, set) (true, record set { records = joined r (beside set.record_type set.records); ttl = r.ttl; serial = 0 })).1
+  go : (b : Bool) → P (if◌then◌else◌ {A = Bool × SetValue} b (false, set)
+      (true, record set { records = joined r (beside set.record_type set.records); ttl = r.ttl; serial = 0 })).1
   go true = same
   go false = changed
 
@@ -54,7 +58,8 @@ some_joined : (r : Record RData) (xs : List (Record RData)) → joined r xs ≢ 
 some_joined r [] = λ none. let e : ⊥ = cc in e
 some_joined r (x ∷ xs) = λ none. let e : ⊥ = cc in e
 
-one_of : (r : Record RData) (xs : List (Record RData)) (b : Bool) → b ≡ true → length (joined r (if b then [] else xs)) ≤ 1
+one_of : (r : Record RData) (xs : List (Record RData)) (b : Bool) → b ≡ true
+    → length (joined r (if b then [] else xs)) ≤ 1
 one_of r xs true is = omega arith
 one_of r xs false is = absurd cc
 
@@ -62,37 +67,45 @@ one_of r xs false is = absurd cc
 abbrev OwnOwner : NameValue → List (Record RData) → Type 0
 OwnOwner name = AllByRecursion (λ (x : Record RData). same_name x.name name ≡ true)
 
-own_replaced : (name : NameValue) (r : Record RData) → same_name r.name name ≡ true → (xs : List (Record RData)) → OwnOwner name xs → OwnOwner name (replaced r xs)
+own_replaced : (name : NameValue) (r : Record RData) → same_name r.name name ≡ true → (xs : List (Record RData))
+    → OwnOwner name xs → OwnOwner name (replaced r xs)
 own_replaced name r own [] all = tt
 own_replaced name r own (x ∷ xs) all = (one (has_data_of r x), own_replaced name r own xs all.1) where
   one : (b : Bool) → same_name (if b then r else x).name name ≡ true
   one true = own
   one false = all.0
 
-own_append : (name : NameValue) (xs ys : List (Record RData)) → OwnOwner name xs → OwnOwner name ys → OwnOwner name (xs ++ ys)
+own_append : (name : NameValue) (xs ys : List (Record RData)) → OwnOwner name xs → OwnOwner name ys
+    → OwnOwner name (xs ++ ys)
 own_append name [] ys own more = more
 own_append name (x ∷ xs) ys own more = (own.0, own_append name xs ys own.1 more)
 
-own_joined : (name : NameValue) (r : Record RData) → same_name r.name name ≡ true → (xs : List (Record RData)) → OwnOwner name xs → OwnOwner name (joined r xs)
-own_joined name r own xs all = own_append name (replaced r xs) _ (own_replaced name r own xs all) (last (list_any (has_data_of r) xs)) where
-  last : (b : Bool) → OwnOwner name (if b then [] else r ∷ [])
-  last true = tt
-  last false = (own, tt)
+own_joined : (name : NameValue) (r : Record RData) → same_name r.name name ≡ true → (xs : List (Record RData))
+    → OwnOwner name xs → OwnOwner name (joined r xs)
+own_joined name r own xs all = own_append name (replaced r xs) _ (own_replaced name r own xs all)
+    (last (list_any (has_data_of r) xs)) where
+      last : (b : Bool) → OwnOwner name (if b then [] else r ∷ [])
+      last true = tt
+      last false = (own, tt)
 
-own_beside : (name : NameValue) (b : Bool) (xs : List (Record RData)) → OwnOwner name xs → OwnOwner name (if b then [] else xs)
+own_beside : (name : NameValue) (b : Bool) (xs : List (Record RData)) → OwnOwner name xs
+    → OwnOwner name (if b then [] else xs)
 own_beside name true xs all = tt
 own_beside name false xs all = all
 
 -- the set is kept with one record more
-pub insert_kept : (set : SetValue) (r : Record RData) → IsKeyed (record_key r) set → IsKeyed (record_key r) (insert set r 0).1
+pub insert_kept : (set : SetValue) (r : Record RData) → IsKeyed (record_key r) set
+    → IsKeyed (record_key r) (insert set r 0).1
 insert_kept set r kept = record {
   key_is = insert_cases (λ s. record_key r ≡ key_of s.name s.record_type) set r kept.key_is kept.key_is;
   some = insert_cases (λ s. s.records ≢ []) set r kept.some (some_joined r (beside set.record_type set.records));
   own_owner = insert_cases (λ s. OwnOwner s.name s.records) set r kept.own_owner
-      (own_joined set.name r (same_of_lower r.name set.name (ap (λ (k : RrKey). k.name) kept.key_is)) (beside set.record_type set.records)
+      (own_joined set.name r (same_of_lower r.name set.name (ap (λ (k : RrKey). k.name) kept.key_is))
+      (beside set.record_type set.records)
       (own_beside set.name (holds_one set.record_type) set.records kept.own_owner));
   tidy = insert_keeps_tidy set r 0 (enters set r kept) kept.tidy;
-  single = insert_cases (λ s. holds_one s.record_type ≡ true → length s.records ≤ 1) set r kept.single (one_of r set.records (holds_one set.record_type));
+  single = insert_cases (λ s. holds_one s.record_type ≡ true → length s.records ≤ 1) set r kept.single
+      (one_of r set.records (holds_one set.record_type));
 }
 
 -- the set of a record is kept under its key

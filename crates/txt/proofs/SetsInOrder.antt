@@ -1,5 +1,6 @@
 -- Sets in the order of their keys: what stands after them, the last one, and a run that goes into a map.
-use Rattle.std.proofs.Common.{◌≡◌, ◌-◌, [], ◌∷◌, ◌++◌, length, refl, ap, sym, ◌∙◌, subst, arith, append_assoc, length-append, suc, Some, None}
+use Rattle.std.proofs.Common.{◌≡◌, ◌-◌, [], ◌∷◌, ◌++◌, length, refl, ap, sym, ◌∙◌, subst, arith, append_assoc}
+use Rattle.std.proofs.Common.{length-append, suc, Some, None}
 use Rattle.std.proofs.lemmas.Map.{lookup-none}
 use Rattle.std.proofs.lemmas.Map.Entries.{lookup_tail, none_below_head}
 use Rattle.std.proofs.lemmas.Map.Keys.{sorted_tail}
@@ -11,7 +12,7 @@ use Rattle.std.specs.Map.{keys_of, set_value}
 use Rattle.std.specs.Ordering.{is_eq, ordering_reverse}
 use Rattle.std.specs.declared.cmp.Ordering.{Ordering}
 use Rattle.std.specs.declared.cmp.Ordering.TheVariants.{Less, Equal, Greater}
-use Rattle.base.proofs.KeyLemmas.{key_cmp-total}
+use Rattle.base.proofs.names.KeyLemmas.{key_cmp-total}
 use Rattle.base.specs.RrKey.{key_cmp}
 use Rattle.base.specs.declared.rr_key.RrKey.{RrKey}
 use Rattle.rr.specs.RecordSet.{SetValue}
@@ -31,15 +32,18 @@ pub flipped_back : (a b : RrKey) → key_cmp a b ≡ Greater → key_cmp b a ≡
 flipped_back a b greater = key_cmp-total.antisymm b a ∙ ap ordering_reverse greater
 
 -- ---- what holds of all
-front_keys : (P : RrKey → Type 0) (es fs : ZoneSets) → AllByRecursion P (keys_of (es ++ fs)) → AllByRecursion P (keys_of es)
+front_keys : (P : RrKey → Type 0) (es fs : ZoneSets) → AllByRecursion P (keys_of (es ++ fs))
+    → AllByRecursion P (keys_of es)
 front_keys P [] fs h = tt
 front_keys P (e ∷ es) fs h = (h.0, front_keys P es fs h.1)
 
-back_keys : (P : RrKey → Type 0) (es fs : ZoneSets) → AllByRecursion P (keys_of (es ++ fs)) → AllByRecursion P (keys_of fs)
+back_keys : (P : RrKey → Type 0) (es fs : ZoneSets) → AllByRecursion P (keys_of (es ++ fs))
+    → AllByRecursion P (keys_of fs)
 back_keys P [] fs h = h
 back_keys P (e ∷ es) fs h = back_keys P es fs h.1
 
-push_key : (P : RrKey → Type 0) (es : ZoneSets) (key : RrKey) (set : SetValue) → AllByRecursion P (keys_of es) → P key → AllByRecursion P (keys_of (es ++ (key, set) ∷ []))
+push_key : (P : RrKey → Type 0) (es : ZoneSets) (key : RrKey) (set : SetValue) → AllByRecursion P (keys_of es) → P key
+    → AllByRecursion P (keys_of (es ++ (key, set) ∷ []))
 push_key P [] key set h k = (k, tt)
 push_key P (e ∷ es) key set h k = (h.0, push_key P es key set h.1 k)
 
@@ -51,7 +55,8 @@ pub kept_back : (es fs : ZoneSets) → AreKeyed (es ++ fs) → AreKeyed fs
 kept_back [] fs h = h
 kept_back (e ∷ es) fs h = kept_back es fs h.1
 
-pub kept_push : (es : ZoneSets) (key : RrKey) (set : SetValue) → AreKeyed es → IsKeyed key set → AreKeyed (es ++ (key, set) ∷ [])
+pub kept_push : (es : ZoneSets) (key : RrKey) (set : SetValue) → AreKeyed es → IsKeyed key set
+    → AreKeyed (es ++ (key, set) ∷ [])
 kept_push [] key set h k = (k, tt)
 kept_push (e ∷ es) key set h k = (h.0, kept_push es key set h.1 k)
 
@@ -66,19 +71,27 @@ unfolding IsStrictlySortedBy
 order_back [] fs h = h
 order_back (e ∷ es) fs h = order_back es fs h.1
 
-pub order_push : (es : ZoneSets) (key : RrKey) (set : SetValue) → AreInOrder es → IsAbove key es → AreInOrder (es ++ (key, set) ∷ [])
+pub order_push : (es : ZoneSets) (key : RrKey) (set : SetValue) → AreInOrder es → IsAbove key es
+    → AreInOrder (es ++ (key, set) ∷ [])
 unfolding IsStrictlySortedBy
 order_push [] key set h k = (tt, tt)
-order_push (e ∷ es) key set h k = (push_key (λ q. key_cmp e.0 q ≡ Less) es key set h.0 (flipped_back key e.0 k.0), order_push es key set h.1 k.1)
+order_push (e ∷ es) key set h k = (
+  push_key (λ q. key_cmp e.0 q ≡ Less) es key set h.0 (flipped_back key e.0 k.0),
+  order_push es key set h.1 k.1,
+)
 
 -- the last key is above those before it
 pub last_above : (es : ZoneSets) (key : RrKey) (set : SetValue) → AreInOrder (es ++ (key, set) ∷ []) → IsAbove key es
 unfolding IsStrictlySortedBy
 last_above [] key set h = tt
-last_above (e ∷ es) key set h = (flipped e.0 key (back_keys (λ k. key_cmp e.0 k ≡ Less) es ((key, set) ∷ []) h.0).0, last_above es key set h.1)
+last_above (e ∷ es) key set h = (
+  flipped e.0 key (back_keys (λ k. key_cmp e.0 k ≡ Less) es ((key, set) ∷ []) h.0).0,
+  last_above es key set h.1,
+)
 
 -- what is above the last key is above all
-pub above_all : (k : RrKey) (es : ZoneSets) (key : RrKey) (set : SetValue) → AreInOrder (es ++ (key, set) ∷ []) → key_cmp k key ≡ Greater → IsAbove k (es ++ (key, set) ∷ [])
+pub above_all : (k : RrKey) (es : ZoneSets) (key : RrKey) (set : SetValue) → AreInOrder (es ++ (key, set) ∷ [])
+    → key_cmp k key ≡ Greater → IsAbove k (es ++ (key, set) ∷ [])
 unfolding IsStrictlySortedBy
 above_all k [] key set h g = (g, tt)
 above_all k (e ∷ es) key set h g =
@@ -86,7 +99,8 @@ above_all k (e ∷ es) key set h g =
     (flipped e.0 k (key_cmp-total.trans e.0 key k below (flipped_back k key g)), above_all k es key set h.1 g)
 
 -- the last of a list, and those before it
-pub split_last : (es : ZoneSets) (e : RrKey × SetValue) → slice_get es (length es - 1) ≡ Some e → (front : ZoneSets) × (es ≡ front ++ e ∷ [])
+pub split_last : (es : ZoneSets) (e : RrKey × SetValue) → slice_get es (length es - 1) ≡ Some e
+    → (front : ZoneSets) × (es ≡ front ++ e ∷ [])
 split_last [] e is = absurd cc
 split_last (x ∷ []) e is = ([], cc)
 split_last (x ∷ y ∷ ys) e is =
@@ -98,30 +112,36 @@ split_last (x ∷ y ∷ ys) e is =
 last_of : (es : ZoneSets) (e : RrKey × SetValue) → slice_get (es ++ e ∷ []) (length (es ++ e ∷ []) - 1) ≡ Some e
 last_of [] e = refl
 last_of (x ∷ es) e =
-    let at : length (x ∷ (es ++ e ∷ [])) - 1 ≡ suc (length (es ++ e ∷ []) - 1) = omega (arith, length-append es (e ∷ [])) in
+    let at : length (x ∷ (es ++ e ∷ [])) - 1 ≡ suc (length (es ++ e ∷ []) - 1) =
+    omega (arith, length-append es (e ∷ [])) in
     ap (slice_get (x ∷ (es ++ e ∷ []))) at ∙ last_of es e
 
 pub last_key : (front : ZoneSets) (e : RrKey × SetValue) → HasLastKey (front ++ e ∷ []) e.0
 last_key front e = λ x at. let same : Some e ≡ Some x = sym (last_of front e) ∙ at in cc
 
 -- the entry that stands after the others is the last one
-one_last : (fs front : ZoneSets) (e : RrKey × SetValue) (key : RrKey) (set : SetValue) → fs ≡ front ++ e ∷ [] → slice_get fs (length fs - 1) ≡ Some (key, set)
+one_last : (fs front : ZoneSets) (e : RrKey × SetValue) (key : RrKey) (set : SetValue) → fs ≡ front ++ e ∷ []
+    → slice_get fs (length fs - 1) ≡ Some (key, set)
     → fs ≡ front ++ (key, e.1) ∷ []
 one_last fs front e key set is at =
-    let same : Some e ≡ Some (key, set) = sym (last_of front e) ∙ ap (λ (zs : ZoneSets). slice_get zs (length zs - 1)) (sym is) ∙ at in
+    let same : Some e ≡ Some (key, set) = sym (last_of front e)
+    ∙ ap (λ (zs : ZoneSets). slice_get zs (length zs - 1)) (sym is) ∙ at in
     let one : e.0 ≡ key = cc in
     is ∙ ap (λ (k : RrKey). front ++ (k, e.1) ∷ []) one
 
 -- the same of a run as it was lent
 pub last_run : (fs lent front : ZoneSets) (e : RrKey × SetValue) (key : RrKey) → lent ≡ fs → fs ≡ front ++ e ∷ []
     → (set : SetValue) × (slice_get lent (length lent - 1) ≡ Some (key, set)) → fs ≡ front ++ (key, e.1) ∷ []
-last_run fs lent front e key same is at = one_last fs front e key at.0 is (ap (λ (zs : ZoneSets). slice_get zs (length zs - 1)) (sym same) ∙ at.1)
+last_run fs lent front e key same is at =
+    one_last fs front e key at.0 is (ap (λ (zs : ZoneSets). slice_get zs (length zs - 1)) (sym same) ∙ at.1)
 
 -- what is above the last one is above all of a list
-pub above_by_last : (k : RrKey) (es fs : ZoneSets) (e : RrKey × SetValue) → AreInOrder (es ++ fs) → slice_get fs (length fs - 1) ≡ Some e → key_cmp k e.0 ≡ Greater → IsAbove k (es ++ fs)
+pub above_by_last : (k : RrKey) (es fs : ZoneSets) (e : RrKey × SetValue) → AreInOrder (es ++ fs)
+    → slice_get fs (length fs - 1) ≡ Some e → key_cmp k e.0 ≡ Greater → IsAbove k (es ++ fs)
 above_by_last k es fs e order at g =
     let parts = split_last fs e at in
-    let whole : es ++ fs ≡ (es ++ parts.0) ++ e ∷ [] = ap (λ (zs : ZoneSets). es ++ zs) parts.1 ∙ sym (append_assoc es parts.0 (e ∷ [])) in
+    let whole : es ++ fs ≡ (es ++ parts.0) ++ e ∷ [] =
+    ap (λ (zs : ZoneSets). es ++ zs) parts.1 ∙ sym (append_assoc es parts.0 (e ∷ [])) in
     subst (IsAbove k) (sym whole) (above_all k (es ++ parts.0) e.0 e.1 (subst AreInOrder whole order) g)
 
 -- ---- a key above all
@@ -129,16 +149,19 @@ pub none_there : (es : ZoneSets) (key : RrKey) → IsAbove key es → set_at es 
 none_there [] key h = refl
 none_there (e ∷ es) key h = rw h.0 (none_there es key h.1)
 
-pub inserted_after : (es : ZoneSets) (key : RrKey) (set : SetValue) → IsAbove key es → insert_entry key_cmp es key set ≡ es ++ (key, set) ∷ []
+pub inserted_after : (es : ZoneSets) (key : RrKey) (set : SetValue) → IsAbove key es
+    → insert_entry key_cmp es key set ≡ es ++ (key, set) ∷ []
 inserted_after [] key set h = refl
 inserted_after (e ∷ es) key set h = rw h.0 (ap (λ (zs : ZoneSets). e ∷ zs) (inserted_after es key set h.1))
 
 -- ---- the last key
-pub found_last : (es : ZoneSets) (key : RrKey) (set : SetValue) → IsAbove key es → set_at (es ++ (key, set) ∷ []) key ≡ Some set
+pub found_last : (es : ZoneSets) (key : RrKey) (set : SetValue) → IsAbove key es
+    → set_at (es ++ (key, set) ∷ []) key ≡ Some set
 found_last [] key set h = let own : key_cmp key key ≡ Equal = tied_itself key_cmp-total key in rw own refl
 found_last (e ∷ es) key set h = rw h.0 (found_last es key set h.1)
 
-pub set_last : (es : ZoneSets) (key : RrKey) (set new : SetValue) → IsAbove key es → set_value (is_at (key_cmp key)) (es ++ (key, set) ∷ []) new ≡ es ++ (key, new) ∷ []
+pub set_last : (es : ZoneSets) (key : RrKey) (set new : SetValue) → IsAbove key es
+    → set_value (is_at (key_cmp key)) (es ++ (key, set) ∷ []) new ≡ es ++ (key, new) ∷ []
 set_last [] key set new h = let own : key_cmp key key ≡ Equal = tied_itself key_cmp-total key in rw own refl
 set_last (e ∷ es) key set new h = rw h.0 (ap (λ (zs : ZoneSets). e ∷ zs) (set_last es key set new h.1))
 
@@ -151,16 +174,19 @@ kept_last es fs e kept = (kept_back (es ++ fs) (e ∷ []) (subst AreKeyed (whole
 
 -- ---- a run that goes into a map
 -- a set goes between those below it and those above it
-pub put_between : (es fs : ZoneSets) (key : RrKey) (set : SetValue) → AreInOrder (es ++ (key, set) ∷ fs) → insert_entry key_cmp (es ++ fs) key set ≡ es ++ (key, set) ∷ fs
+pub put_between : (es fs : ZoneSets) (key : RrKey) (set : SetValue) → AreInOrder (es ++ (key, set) ∷ fs)
+    → insert_entry key_cmp (es ++ fs) key set ≡ es ++ (key, set) ∷ fs
 unfolding IsStrictlySortedBy
 put_between [] [] key set order = refl
 put_between [] (f ∷ fs) key set order = rw order.0.0 refl
 put_between (e ∷ es) fs key set order =
-    let above : key_cmp key e.0 ≡ Greater = flipped e.0 key (back_keys (λ k. key_cmp e.0 k ≡ Less) es ((key, set) ∷ fs) order.0).0 in
+    let above : key_cmp key e.0 ≡ Greater = flipped e.0 key
+    (back_keys (λ k. key_cmp e.0 k ≡ Less) es ((key, set) ∷ fs) order.0).0 in
     rw above (ap (λ (zs : ZoneSets). e ∷ zs) (put_between es fs key set order.1))
 
 -- the keys that are left where some are taken out
-keys_without : (P : RrKey → Type 0) (es ms fs : ZoneSets) → AllByRecursion P (keys_of (es ++ (ms ++ fs))) → AllByRecursion P (keys_of (es ++ fs))
+keys_without : (P : RrKey → Type 0) (es ms fs : ZoneSets) → AllByRecursion P (keys_of (es ++ (ms ++ fs)))
+    → AllByRecursion P (keys_of (es ++ fs))
 keys_without P [] ms fs h = back_keys P ms fs h
 keys_without P (e ∷ es) ms fs h = (h.0, keys_without P es ms fs h.1)
 
@@ -175,25 +201,34 @@ pub record AreBetween (sets run whole left : ZoneSets) : Type 0 where
   pub all : left ++ put ≡ run
   pub have : whole ≡ sets ++ put
 
-pub one_more_put : {sets run whole left : ZoneSets} (e : RrKey × SetValue) (rest more : ZoneSets) → AreInOrder (sets ++ run) → AreBetween sets run whole left
+pub one_more_put : {sets run whole left : ZoneSets} (e : RrKey × SetValue) (rest more : ZoneSets)
+    → AreInOrder (sets ++ run) → AreBetween sets run whole left
     → left ≡ rest ++ e ∷ [] → more ≡ insert_entry key_cmp whole e.0 e.1 → AreBetween sets run more rest
 one_more_put {sets} {run} {whole} {left} e rest more order is last put =
-    let all : rest ++ e ∷ is.put ≡ run = sym (append_assoc rest (e ∷ []) is.put) ∙ ap (λ (zs : ZoneSets). zs ++ is.put) (sym last) ∙ is.all in
-    let above : AreInOrder (sets ++ e ∷ is.put) = order_without sets rest (e ∷ is.put) (subst (λ (zs : ZoneSets). AreInOrder (sets ++ zs)) (sym all) order) in
+    let all : rest ++ e ∷ is.put ≡ run = sym (append_assoc rest (e ∷ []) is.put)
+    ∙ ap (λ (zs : ZoneSets). zs ++ is.put) (sym last) ∙ is.all in
+    let above : AreInOrder (sets ++ e ∷ is.put) =
+    order_without sets rest (e ∷ is.put) (subst (λ (zs : ZoneSets). AreInOrder (sets ++ zs)) (sym all) order) in
     record {
       put = e ∷ is.put;
       all = all;
-      have = put ∙ ap (λ (zs : ZoneSets). insert_entry key_cmp zs e.0 e.1) is.have ∙ put_between sets is.put e.0 e.1 above;
+      have = put ∙ ap (λ (zs : ZoneSets). insert_entry key_cmp zs e.0 e.1) is.have
+          ∙ put_between sets is.put e.0 e.1 above;
     }
 
 -- a set under a key that is there takes the place of the one there
-pub put_there : (es : ZoneSets) (key : RrKey) (old new : SetValue) → AreInOrder es → set_at es key ≡ Some old → insert_entry key_cmp es key new ≡ set_value (is_at (key_cmp key)) es new
+pub put_there : (es : ZoneSets) (key : RrKey) (old new : SetValue) → AreInOrder es → set_at es key ≡ Some old
+    → insert_entry key_cmp es key new ≡ set_value (is_at (key_cmp key)) es new
 put_there [] key old new order there = absurd cc
-put_there (e ∷ es) key old new order there = go (key_cmp key e.0) refl (put_there es key old new (sorted_tail key_cmp e.0 (keys_of es) order)) where
-  go : (o : Ordering) → key_cmp key e.0 ≡ o → (set_at es key ≡ Some old → insert_entry key_cmp es key new ≡ set_value (is_at (key_cmp key)) es new)
-      → insert_entry key_cmp (e ∷ es) key new ≡ set_value (is_at (key_cmp key)) (e ∷ es) new
-  go Less is again = let no : None ≡ Some old = sym (lookup-none (is_at (key_cmp key)) (e ∷ es) (none_below_head key_cmp-total key e es order is)) ∙ there in absurd cc
-  go Equal is again = rw is refl
-  go Greater is again =
-      let later = sym (lookup_tail (is_at (key_cmp key)) e es (ap is_eq is)) ∙ there in
-      rw is (ap (λ (zs : ZoneSets). e ∷ zs) (again later))
+put_there (e ∷ es) key old new order there =
+    go (key_cmp key e.0) refl (put_there es key old new (sorted_tail key_cmp e.0 (keys_of es) order)) where
+      go : (o : Ordering) → key_cmp key e.0 ≡ o
+          → (set_at es key ≡ Some old → insert_entry key_cmp es key new ≡ set_value (is_at (key_cmp key)) es new)
+          → insert_entry key_cmp (e ∷ es) key new ≡ set_value (is_at (key_cmp key)) (e ∷ es) new
+      go Less is again = let no : None ≡ Some old =
+          sym (lookup-none (is_at (key_cmp key)) (e ∷ es) (none_below_head key_cmp-total key e es order is)) ∙ there in
+          absurd cc
+      go Equal is again = rw is refl
+      go Greater is again =
+          let later = sym (lookup_tail (is_at (key_cmp key)) e es (ap is_eq is)) ∙ there in
+          rw is (ap (λ (zs : ZoneSets). e ∷ zs) (again later))

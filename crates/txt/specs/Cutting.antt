@@ -2,8 +2,8 @@
 use Rattle.std.specs.Prelude.{◌≡◌, ℕ, List, [], ◌∷◌, Option, Some, None, Result, Ok, Err, String}
 use Rattle.std.specs.String.{string_bytes}
 use Rattle.std.specs.declared.alloc.Global.{Global}
-use Rattle.base.specs.TokenList.{Symbol, broken, symbol}
-use Rattle.base.specs.Tokens.{texts, value_of}
+use Rattle.base.specs.texts.TokenList.{Placed, Symbol, broken, first_place, symbol}
+use Rattle.base.specs.texts.Tokens.{texts, value_of}
 use Rattle.txt.specs.Entries.{
   Body,
   Entry,
@@ -86,41 +86,41 @@ entry_value (cut.Line owner stated body) =
 entry_value (cut.Faulty other) = faulty_entry (symbol_value other)
 
 -- What stands next is this, before what is read on from; or nothing does.
-abbrev pub ReadsSymbol : Option CutSymbol → List Symbol → List Symbol → Type 0
+abbrev pub ReadsSymbol : Option CutSymbol → List Placed → List Placed → Type 0
 ReadsSymbol None from to = (from ≡ []) × (to ≡ [])
-ReadsSymbol (Some (cuts.Token t)) from to = from ≡ symbol (value_of t) ∷ to
-ReadsSymbol (Some cuts.Broken) from to = from ≡ broken ∷ []
+ReadsSymbol (Some (cuts.Token t)) from to = from ≡ (symbol (value_of t), first_place from) ∷ to
+ReadsSymbol (Some cuts.Broken) from to = from ≡ (broken, first_place from) ∷ []
 
 -- what is read on after such an end: nothing after a token that has no place
-abbrev pub rest_of_stop : Stop → List Symbol → List Symbol
+abbrev pub rest_of_stop : Stop → List Placed → List Placed
 rest_of_stop whole to = to
 rest_of_stop (refused other) to = []
 
 -- the same after a body
-abbrev pub rest_of_body : Body → List Symbol → List Symbol
+abbrev pub rest_of_body : Body → List Placed → List Placed
 rest_of_body (untyped stop) to = rest_of_stop stop to
 rest_of_body (typed word items stop) to = rest_of_stop stop to
 
 -- the same after an entry
-abbrev pub rest_of_entry : Entry → List Symbol → List Symbol
+abbrev pub rest_of_entry : Entry → List Placed → List Placed
 rest_of_entry (owner_line owner stated body) to = rest_of_body body to
 rest_of_entry (faulty_entry other) to = []
 rest_of_entry other to = to
 
 -- an entry that was cut off, and what is read on after it
-abbrev pub cut_off : CutEntry → List Symbol → Entry × List Symbol
+abbrev pub cut_off : CutEntry → List Placed → Entry × List Placed
 cut_off e to = (entry_value e, rest_of_entry (entry_value e) to)
 
 -- the same where the text may have ended
-abbrev pub found_first : Option CutEntry → List Symbol → Option (Entry × List Symbol)
+abbrev pub found_first : Option CutEntry → List Placed → Option (Entry × List Placed)
 found_first None to = None
 found_first (Some e) to = Some (cut_off e to)
 
 -- What the item that an entry needs makes of it is this: the item, or the entry that ends before it.
-abbrev pub FindsItem : Result (String Global) CutEntry → List Symbol → List Symbol → Type 0
+abbrev pub FindsItem : Result (String Global) CutEntry → List Placed → List Placed → Type 0
 FindsItem (Ok word) from to =
-    (entry : List ℕ → List Symbol → Entry × List Symbol)
+    (entry : List ℕ → List Placed → Entry × List Placed)
     → with_item entry from ≡ entry (string_bytes word) to
 FindsItem (Err e) from to =
-    (entry : List ℕ → List Symbol → Entry × List Symbol)
+    (entry : List ℕ → List Placed → Entry × List Placed)
     → with_item entry from ≡ cut_off e to

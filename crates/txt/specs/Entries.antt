@@ -1,11 +1,11 @@
 -- The entries of a text (RFC 1035, 5.1).
-use Rattle.std.specs.Prelude.{ℕ, Option, Some, None, List, [], ◌∷◌, ◌++◌, length}
+use Rattle.std.specs.Prelude.{ℕ, Option, Some, None, List, [], ◌∷◌, ◌++◌, length, option_map}
 use Rattle.std.specs.Str.{str_to_ascii_uppercase}
 use Rattle.base.specs.DNSClass.{class_from_text}
-use Rattle.base.specs.TextFaults.{Fault, lexer, unexpected}
-use Rattle.base.specs.TokenList.{Symbol, broken, listing, symbol, symbols}
-use Rattle.base.specs.Tokens.{Unread, at, blank, char_data, eol, include, list, origin_sign, ttl_sign}
-use Rattle.base.specs.Ttl.{ttl_of}
+use Rattle.base.specs.texts.TextFaults.{Fault, lexer, unexpected}
+use Rattle.base.specs.texts.TokenList.{Placed, Symbol, broken, listing, symbol, symbols}
+use Rattle.base.specs.texts.Tokens.{Unread, at, blank, char_data, eol, include, list, origin_sign, ttl_sign}
+use Rattle.base.specs.texts.Ttl.{ttl_of}
 use Rattle.base.specs.declared.dns_class.DNSClass.{DNSClass}
 
 -- the fault of a token that has no place where it stands, or the lexer's
@@ -72,71 +72,80 @@ pub data Entry : Type 0 where
   faulty_entry : Symbol → Entry
 
 -- after so many items of the data: all of them, how they end, and where the next entry begins
-abbrev pub items_after : List Symbol → List (List ℕ) → (List (List ℕ) × Stop) × List Symbol
+abbrev pub items_after : List Placed → List (List ℕ) → (List (List ℕ) × Stop) × List Placed
 items_after [] items = ((items, whole), [])
-items_after (symbol eol ∷ rest) items = ((items, whole), rest)
-items_after (symbol (char_data word) ∷ rest) items = items_after rest (items ++ word ∷ [])
-items_after (symbol (list words) ∷ rest) items = items_after rest (items ++ words)
-items_after (other ∷ rest) items = ((items, refused other), [])
+items_after ((symbol eol, left) ∷ rest) items = ((items, whole), rest)
+items_after ((symbol (char_data word), left) ∷ rest) items = items_after rest (items ++ word ∷ [])
+items_after ((symbol (list words), left) ∷ rest) items = items_after rest (items ++ words)
+items_after (other ∷ rest) items = ((items, refused other.0), [])
 
 -- the line of a type with these items
-abbrev pub typed_line : Settings → List ℕ → (List (List ℕ) × Stop) × List Symbol
-    → (Settings × Body) × List Symbol
+abbrev pub typed_line : Settings → List ℕ → (List (List ℕ) × Stop) × List Placed
+    → (Settings × Body) × List Placed
 typed_line settings word found = ((settings, typed word found.0.0 found.0.1), found.1)
 
 -- an item that is a setting stands before the rest of the line; another is its type
-abbrev pub line_by : Option Setting → List ℕ → List Symbol
-    → (Settings → (Settings × Body) × List Symbol)
+abbrev pub line_by : Option Setting → List ℕ → List Placed
+    → (Settings → (Settings × Body) × List Placed)
     → Settings
-    → (Settings × Body) × List Symbol
+    → (Settings × Body) × List Placed
 line_by (Some setting) word rest more settings = more (with_setting settings setting)
 line_by None word rest more settings =
     typed_line settings (str_to_ascii_uppercase word) (items_after rest [])
 
 -- after such settings: all of them, what stands after them, and where the next entry begins
-abbrev pub line_after : List Symbol → Settings → (Settings × Body) × List Symbol
+abbrev pub line_after : List Placed → Settings → (Settings × Body) × List Placed
 line_after [] settings = ((settings, untyped whole), [])
-line_after (symbol eol ∷ rest) settings = ((settings, untyped whole), rest)
-line_after (symbol (char_data word) ∷ rest) settings =
+line_after ((symbol eol, left) ∷ rest) settings = ((settings, untyped whole), rest)
+line_after ((symbol (char_data word), left) ∷ rest) settings =
     line_by (setting_of word) word rest (line_after rest) settings
-line_after (other ∷ rest) settings = ((settings, untyped (refused other)), [])
+line_after (other ∷ rest) settings = ((settings, untyped (refused other.0)), [])
 
 -- the entry of an owner and the line after it
-abbrev pub line_of : Owner → (Settings × Body) × List Symbol → Entry × List Symbol
+abbrev pub line_of : Owner → (Settings × Body) × List Placed → Entry × List Placed
 line_of owner found = (owner_line owner found.0.0 found.0.1, found.1)
 
 -- the entry that needs an item next, by that item and what stands after it; nothing where the text ends there
-abbrev pub with_item : (List ℕ → List Symbol → Entry × List Symbol) → List Symbol
-    → Entry × List Symbol
+abbrev pub with_item : (List ℕ → List Placed → Entry × List Placed) → List Placed
+    → Entry × List Placed
 with_item entry [] = (nothing, [])
-with_item entry (symbol (char_data word) ∷ rest) = entry word rest
-with_item entry (other ∷ rest) = (faulty_entry other, [])
+with_item entry ((symbol (char_data word), left) ∷ rest) = entry word rest
+with_item entry (other ∷ rest) = (faulty_entry other.0, [])
 
 -- the entry after $INCLUDE and a name: the line has to end there
-abbrev pub include_end : List ℕ → List Symbol → Entry × List Symbol
+abbrev pub include_end : List ℕ → List Placed → Entry × List Placed
 include_end name [] = (nothing, [])
-include_end name (symbol eol ∷ rest) = (include_entry name, rest)
-include_end name (symbol (char_data word) ∷ rest) = (include_under, rest)
-include_end name (other ∷ rest) = (faulty_entry other, [])
+include_end name ((symbol eol, left) ∷ rest) = (include_entry name, rest)
+include_end name ((symbol (char_data word), left) ∷ rest) = (include_under, rest)
+include_end name (other ∷ rest) = (faulty_entry other.0, [])
 
 -- the first entry, and what stands after it
-unfoldable pub first_entry : List Symbol → Option (Entry × List Symbol)
+unfoldable pub first_entry : List Placed → Option (Entry × List Placed)
 first_entry [] = None
-first_entry (symbol eol ∷ rest) = Some (nothing, rest)
-first_entry (symbol origin_sign ∷ rest) =
+first_entry ((symbol eol, left) ∷ rest) = Some (nothing, rest)
+first_entry ((symbol origin_sign, left) ∷ rest) =
     Some (with_item (λ word more. (origin_entry word, more)) rest)
-first_entry (symbol ttl_sign ∷ rest) = Some (with_item (λ word more. (ttl_entry word, more)) rest)
-first_entry (symbol include ∷ rest) = Some (with_item include_end rest)
-first_entry (symbol blank ∷ rest) = Some (line_of same (line_after rest no_settings))
-first_entry (symbol at ∷ rest) = Some (line_of at_origin (line_after rest no_settings))
-first_entry (symbol (char_data word) ∷ rest) =
+first_entry ((symbol ttl_sign, left) ∷ rest) =
+    Some (with_item (λ word more. (ttl_entry word, more)) rest)
+first_entry ((symbol include, left) ∷ rest) = Some (with_item include_end rest)
+first_entry ((symbol blank, left) ∷ rest) = Some (line_of same (line_after rest no_settings))
+first_entry ((symbol at, left) ∷ rest) = Some (line_of at_origin (line_after rest no_settings))
+first_entry ((symbol (char_data word), left) ∷ rest) =
     Some (line_of (named word) (line_after rest no_settings))
-first_entry (other ∷ rest) = Some (faulty_entry other, [])
+first_entry (other ∷ rest) = Some (faulty_entry other.0, [])
+
+-- an entry, and the tokens from its first on
+abbrev pub PlacedEntry : Type 0
+PlacedEntry = Entry × List Placed
+
+-- the first entry with its place, and what stands after it
+abbrev pub first_placed : List Placed → Option (PlacedEntry × List Placed)
+first_placed from = option_map (λ found. ((found.0, from), found.1)) (first_entry from)
 
 -- all entries of a text, one after another (RFC 1035, 5.1)
-unfoldable pub entries : List Symbol → List Entry
-entries symbols = listing first_entry (length symbols) symbols
+unfoldable pub entries : List Placed → List PlacedEntry
+entries symbols = listing first_placed (length symbols) symbols
 
 -- the entries of what is still to be read
-abbrev pub entries_of : Unread → List Entry
+abbrev pub entries_of : Unread → List PlacedEntry
 entries_of unread = entries (symbols unread)

@@ -1,7 +1,9 @@
 pub mod Cutting
 pub mod Entries
+pub mod Faults
 pub mod Gathered
 pub mod Parser
+pub mod Places
 pub mod Run
 pub mod Zone
 pub mod ZoneSets

@@ -1,12 +1,13 @@
 -- The zone of a text: a fold over its entries and those of the texts that it includes (RFC 1035, 5.1).
 use Rattle.std.specs.Option.{ok_or, unwrap_or}
-use Rattle.std.specs.Prelude.{ℕ, Bool, zero, suc, true, false, if◌then◌else◌, List, [], ◌∷◌, Option, Some, None, Result, Ok, Err, codes, option_map}
-use Rattle.base.specs.Labels.{NameValue}
-use Rattle.base.specs.NameOf.{name_of}
+use Rattle.std.specs.Prelude.{ℕ, Bool, zero, suc, true, false, if◌then◌else◌, List, [], ◌∷◌, Option, Some, None, Result}
+use Rattle.std.specs.Prelude.{Ok, Err, codes, option_map}
+use Rattle.base.specs.names.Labels.{NameValue}
+use Rattle.base.specs.texts.NameOf.{name_of}
 use Rattle.base.specs.RecordType.{type_from_text}
-use Rattle.base.specs.TextFaults.{Fault, bad_ttl, not_found, says, unknown_type}
-use Rattle.base.specs.TokenList.{whole_text}
-use Rattle.base.specs.Ttl.{ttl_of}
+use Rattle.base.specs.texts.TextFaults.{Fault, bad_ttl, not_found, says, unknown_type}
+use Rattle.base.specs.texts.TokenList.{whole_text}
+use Rattle.base.specs.texts.Ttl.{ttl_of}
 use Rattle.base.specs.declared.dns_class.DNSClass.{DNSClass}
 use Rattle.base.specs.declared.dns_class.DNSClass.TheVariants as classes
 use Rattle.base.specs.declared.record_type.RecordType.{RecordType}
@@ -18,6 +19,7 @@ use Rattle.txt.specs.Entries.{
   Body,
   Entry,
   Owner,
+  PlacedEntry,
   Settings,
   Stop,
   at_origin,
@@ -37,11 +39,12 @@ use Rattle.txt.specs.Entries.{
   untyped,
   whole,
 }
+use Rattle.txt.specs.Places.{Position, fault_place, include_place, position}
 use Rattle.txt.specs.ZoneSets.{ZoneSets, sets_with}
 
 -- What is in force after an entry: the origin, the last stated owner, class and TTL (RFC 1035, 5.1), the default TTL
--- (RFC 2308, 4), a TTL that was stated and no record has yet; and the sets so far. Also whether types and data may stand
--- in the generic form (RFC 3597, 5), which no entry changes.
+-- (RFC 2308, 4), a TTL that was stated and no record has yet; and the sets so far. Also whether types and data may
+-- stand in the generic form (RFC 3597, 5), which no entry changes.
 pub record ZoneState : Type 0 where
   pub generic : Bool
   pub origin : Option NameValue
@@ -54,7 +57,7 @@ pub record ZoneState : Type 0 where
 
 -- going on with what was made, or ending with its fault
 infixl 10 ◌>>=◌
-abbrev pub ◌>>=◌ : {A B : Type 0} → Result A Fault → (A → Result B Fault) → Result B Fault
+abbrev pub ◌>>=◌ : {A B E : Type 0} → Result A E → (A → Result B E) → Result B E
 (Ok x) >>= f = f x
 (Err e) >>= f = Err e
 
@@ -169,42 +172,73 @@ Texts = List ℕ → Option (List ℕ)
 abbrev pub no_texts : Texts
 no_texts name = None
 
--- what an entry makes of it, where this says what an included text does
-abbrev pub after_entry : (ZoneState → List ℕ → Result ZoneState Fault) → ZoneState → Entry
-    → Result ZoneState Fault
-after_entry within s (include_entry name) = within s name
-after_entry within s entry = apply s entry
+-- A fault, and where it stands: the texts that were opened on the way, each by its name and the line of that name in
+-- the text before; and the place in the last of them.
+pub record PlacedFault : Type 0 where
+  pub fault : Fault
+  pub opened : List (List ℕ × ℕ)
+  pub position : Position
 
--- what entries make of it, one after the other, or the first fault
-unfoldable pub fold : (ZoneState → List ℕ → Result ZoneState Fault) → ZoneState → List Entry
-    → Result ZoneState Fault
-fold within s [] = Ok s
-fold within s (entry ∷ entries) = after_entry within s entry >>= λ t. fold within t entries
+-- a fault at a place of the text that is read
+abbrev pub fault_here : Position → Fault → PlacedFault
+fault_here position fault = record { fault = fault; opened = []; position = position }
+
+-- what was made, or its fault at the place of it
+abbrev pub placed : {A : Type 0} → (Fault → Position) → Result A Fault → Result A PlacedFault
+placed position_of (Ok a) = Ok a
+placed position_of (Err fault) = Err (fault_here (position_of fault) fault)
+
+-- what was made, or its fault without the place
+abbrev pub unplaced : {A : Type 0} → Result A PlacedFault → Result A Fault
+unplaced (Ok a) = Ok a
+unplaced (Err found) = Err found.fault
+
+-- what was made in a text of this name, which was opened on this line
+abbrev pub made_within : {A : Type 0} → List ℕ × ℕ → Result A PlacedFault → Result A PlacedFault
+made_within inclusion (Ok a) = Ok a
+made_within inclusion (Err found) = Err (record found { opened = inclusion ∷ found.opened })
+
+-- what an included text does, where its name stands at this place
+abbrev pub Within : Type 0
+Within = ZoneState → List ℕ → Position → Result ZoneState PlacedFault
+
+-- what an entry of a text makes of it, where this says what an included text does
+abbrev pub after_entry : Within → List ℕ → ZoneState → PlacedEntry → Result ZoneState PlacedFault
+after_entry within text s (include_entry name, from) = within s name (position text (include_place from))
+after_entry within text s (entry, from) =
+    placed (λ fault. position text (fault_place fault from)) (apply s entry)
+
+-- what entries of a text make of it, one after the other, or the first fault
+unfoldable pub fold : Within → List ℕ → ZoneState → List PlacedEntry → Result ZoneState PlacedFault
+fold within text s [] = Ok s
+fold within text s (entry ∷ entries) =
+    after_entry within text s entry >>= λ t. fold within text t entries
 
 -- the includer's origin comes back: $INCLUDE never changes the origin of the parent text (RFC 1035, 5.1)
 abbrev pub restored : Option NameValue → ZoneState → ZoneState
 restored name s = record s { origin = name }
 
 -- what an included text makes of it; a fault where there is no text of the name
-abbrev pub opened : (ZoneState → List ℕ → Result ZoneState Fault) → ZoneState → List ℕ
-    → Option (List ℕ)
-    → Result ZoneState Fault
-opened within s name None = Err (not_found name)
-opened within s name (Some text) = fold within s (entries_of (whole_text text))
+abbrev pub opened_text : Within → ZoneState → List ℕ → Position → Option (List ℕ)
+    → Result ZoneState PlacedFault
+opened_text within s name place None = Err (fault_here place (not_found name))
+opened_text within s name place (Some text) =
+    made_within (name, place.line) (fold within text s (entries_of (whole_text text)))
     >>= λ t. Ok (restored s.origin t)
 
 -- what an included text does, where `room` more texts may be open; the depth is tested before the text is looked up
-unfoldable pub included : Texts → ℕ → ZoneState → List ℕ → Result ZoneState Fault
-included texts zero s name = Err (says (codes "Max depth level for nested $INCLUDE is reached"))
-included texts (suc room) s name = opened (included texts room) s name (texts name)
+unfoldable pub included : Texts → ℕ → Within
+included texts zero s name place =
+    Err (fault_here place (says (codes "Max depth level for nested $INCLUDE is reached")))
+included texts (suc room) s name place = opened_text (included texts room) s name place (texts name)
 
 -- how many texts may be open beside the first
 abbrev pub max_depth : ℕ
 max_depth = 256
 
 -- what the entries of a text make of it, with those of the texts that it includes
-unfoldable pub folded_text : Texts → ZoneState → List ℕ → Result ZoneState Fault
-folded_text texts s text = fold (included texts max_depth) s (entries_of (whole_text text))
+unfoldable pub folded_text : Texts → ZoneState → List ℕ → Result ZoneState PlacedFault
+folded_text texts s text = fold (included texts max_depth) text s (entries_of (whole_text text))
 
 -- what is in force before the first entry; the origin is made absolute
 abbrev pub beginning : Bool → Option NameValue → ZoneState
@@ -224,15 +258,21 @@ beginning generic name =
 abbrev pub answered : ZoneState → Result (NameValue × ZoneSets) Fault
 answered s = ok_or s.origin (says (codes "$ORIGIN was not specified")) >>= λ name. Ok (name, s.sets)
 
--- the same where no fault was met
-abbrev pub parsed_of : Result ZoneState Fault → Result (NameValue × ZoneSets) Fault
-parsed_of made = made >>= λ s. answered s
+-- the same where no fault was met; its own fault stands at the end of the text
+abbrev pub parsed_of : List ℕ → Result ZoneState PlacedFault → Result (NameValue × ZoneSets) PlacedFault
+parsed_of text made = made >>= λ s. placed (λ fault. position text 0) (answered s)
 
 -- the zone of a text, where these texts may be included and an origin may be given, and the generic form may stand or
--- may not
+-- may not; or the first fault, with its place
+abbrev pub placed_zone_by : Bool → Texts → Option NameValue → List ℕ
+    → Result (NameValue × ZoneSets) PlacedFault
+placed_zone_by generic texts origin text =
+    parsed_of text (folded_text texts (beginning generic origin) text)
+
+-- the same without the place
 abbrev pub zone_by : Bool → Texts → Option NameValue → List ℕ
     → Result (NameValue × ZoneSets) Fault
-zone_by generic texts origin text = parsed_of (folded_text texts (beginning generic origin) text)
+zone_by generic texts origin text = unplaced (placed_zone_by generic texts origin text)
 
 -- the zone of a text without the generic form
 abbrev pub zone_of : Texts → Option NameValue → List ℕ → Result (NameValue × ZoneSets) Fault

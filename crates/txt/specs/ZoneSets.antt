@@ -2,10 +2,11 @@
 use Rattle.std.specs.BTreeMap.{insert_entry, is_at}
 use Rattle.std.specs.Map.{lookup, set_value}
 use Rattle.std.specs.List.{AllByRecursion}
-use Rattle.std.specs.Prelude.{◌≡◌, ◌≢◌, ◌≤◌, true, List, [], Option, Some, None, Result, Ok, Err, codes, if◌then◌else◌, length}
-use Rattle.base.specs.NameOrder.{same_name}
+use Rattle.std.specs.Prelude.{◌≡◌, ◌≢◌, ◌≤◌, true, List, [], Option, Some, None, Result, Ok, Err, codes, if◌then◌else◌}
+use Rattle.std.specs.Prelude.{length}
+use Rattle.base.specs.names.NameOrder.{same_name}
 use Rattle.base.specs.RrKey.{key_cmp, key_of}
-use Rattle.base.specs.TextFaults.{Fault, says}
+use Rattle.base.specs.texts.TextFaults.{Fault, says}
 use Rattle.base.specs.declared.rr_key.RrKey.{RrKey}
 use Rattle.base_data.specs.Kinds.{type_of_data}
 use Rattle.base_data.specs.declared.rdata.RData.{RData}

@@ -4,4 +4,5 @@
 pub mod zone;
 
 pub use zone::Parser;
+pub use zone::fault::{FaultPlace, Inclusion, ZoneFault};
 pub use zone::sets::ZoneSets;

@@ -1,18 +1,23 @@
 //! Reads the zone of a text and of the texts that it includes (RFC 1035, 5.1).
 
-ghost use Rattle.std.specs.Prelude.{IfOk, ◌≡◌};
-ghost use Rattle.base.specs.TextFaults.{Gives};
-ghost use Rattle.txt.specs.Zone.{generic_zone_of, zone_by, zone_of};
+ghost use Rattle.std.specs.Prelude.{IfOk, false, true, ◌≡◌};
+ghost use Rattle.base.specs.texts.TextFaults.{Gives};
+ghost use Rattle.txt.specs.Faults.{GivesPlaced};
+ghost use Rattle.txt.specs.Zone.{generic_zone_of, placed_zone_by, zone_of};
 ghost use Rattle.txt.specs.Parser.{named_texts, text_among};
 ghost use Rattle.txt.specs.ZoneSets.{AreKeyed};
 
 mod context;
 mod entry;
+pub mod fault;
+mod places;
 mod run;
 pub mod sets;
 mod texts;
 
 use crate::zone::context::Context;
+use crate::zone::fault::{FaultPlace, ZoneFault};
+use crate::zone::places::position;
 use crate::zone::sets::ZoneSets;
 use crate::zone::texts::read_texts;
 use base::{Name, ParseError, RrKey};
@@ -99,11 +104,11 @@ impl<'a> Parser<'a> {
         ensures { Gives (λ r. r) result
             (zone_of (text_among self.entry.includes) self.entry.origin self.entry.text) }
     {
-        self.read_sets(false)
+        self.read_sets(false).map_err(|fault| fault.error)
     }
 
-    /// The zone that the entries define where types and data may also stand in the generic form (RFC 3597, 5): a type as
-    /// `TYPE` and its number (`parse_type`), and data of any type after `\#` (`RData::from_any_items`).
+    /// The zone that the entries define where types and data may also stand in the generic form (RFC 3597, 5): a type
+    /// as `TYPE` and its number (`parse_type`), and data of any type after `\#` (`RData::from_any_items`).
     ///
     /// # Errors
     ///
@@ -115,14 +120,55 @@ impl<'a> Parser<'a> {
         // Each set stands under the key of its owner and type, has a record and is tidy.
         ensures kept { IfOk result (λ r. AreKeyed r.1.entries) }
     {
+        let (origin, sets) = self.read_sets(true).map_err(|fault| fault.error)?;
+        Ok((origin, sets.into_map()?))
+    }
+
+    /// The zone as `parse` has it, or its fault with the place where it stands: what a zone checker prints.
+    ///
+    /// The fault stands at the first token that makes it. Where a token has no place in its entry, that is the token.
+    /// Else it is the name or TTL of an `$ORIGIN`, `$TTL` or `$INCLUDE`, the name after an `$INCLUDE`'s, the owner
+    /// where that is no name, and for what else a record is refused for, its type. For an included text the place is in
+    /// that text, with the `$INCLUDE`s that lead there. That no origin is in force stands at the end of the text that
+    /// was handed in.
+    ///
+    /// # Errors
+    ///
+    /// Those of `parse`, each with its place; `Memory` has none.
+    pub fn parse_or_fault(self) -> Result<(Name, BTreeMap<RrKey, RecordSet>), ZoneFault>
+        // The zone or the fault with its place is that of the definition, unless memory runs out.
+        ensures zone { GivesPlaced (λ r. (r.0, r.1.entries)) result
+            (placed_zone_by false (text_among self.entry.includes) self.entry.origin
+            self.entry.text) }
+        // Each set stands under the key of its owner and type, has a record and is tidy.
+        ensures kept { IfOk result (λ r. AreKeyed r.1.entries) }
+    {
+        let (origin, sets) = self.read_sets(false)?;
+        Ok((origin, sets.into_map()?))
+    }
+
+    /// The same of `parse_generic`.
+    ///
+    /// # Errors
+    ///
+    /// Those of `parse_generic`, each with its place; `Memory` has none.
+    pub fn parse_generic_or_fault(self) -> Result<(Name, BTreeMap<RrKey, RecordSet>), ZoneFault>
+        // The zone or the fault with its place is that of the definition, unless memory runs out.
+        ensures zone { GivesPlaced (λ r. (r.0, r.1.entries)) result
+            (placed_zone_by true (text_among self.entry.includes) self.entry.origin
+            self.entry.text) }
+        // Each set stands under the key of its owner and type, has a record and is tidy.
+        ensures kept { IfOk result (λ r. AreKeyed r.1.entries) }
+    {
         let (origin, sets) = self.read_sets(true)?;
         Ok((origin, sets.into_map()?))
     }
 
     /// The origin and the sets, where the generic form may stand or may not.
-    fn read_sets(self, generic: bool) -> Result<(Name, ZoneSets), ParseError>
-        ensures { Gives (λ r. r) result
-            (zone_by generic (text_among self.entry.includes) self.entry.origin self.entry.text) }
+    fn read_sets(self, generic: bool) -> Result<(Name, ZoneSets), ZoneFault>
+        ensures { GivesPlaced (λ r. r) result
+            (placed_zone_by generic (text_among self.entry.includes) self.entry.origin
+            self.entry.text) }
     {
         let Parser {
             alloc,
@@ -132,6 +178,18 @@ impl<'a> Parser<'a> {
         } = self;
         let mut context = Context::new(alloc, origin, generic);
         read_texts(alloc, text, includes, &mut context)?;
-        context.answer()
+        let Some(zone) = context.answer() else {
+            let (line, column) = position(text, 0);
+            let place = FaultPlace {
+                inclusions: Vec::new(alloc),
+                line,
+                column,
+            };
+            return Err(ZoneFault {
+                error: ParseError::Message("$ORIGIN was not specified"),
+                place: Some(place),
+            });
+        };
+        Ok(zone)
     }
 }

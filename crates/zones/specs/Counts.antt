@@ -1,7 +1,7 @@
 -- How many record sets the zone of a text has.
 use Rattle.std.specs.Prelude.{Err, Ok, Result, length, ℕ, ◌≡◌}
-use Rattle.base.specs.Labels.{NameValue}
-use Rattle.base.specs.TextFaults.{Fault}
+use Rattle.base.specs.names.Labels.{NameValue}
+use Rattle.base.specs.texts.TextFaults.{Fault}
 use Rattle.txt.specs.ZoneSets.{ZoneSets}
 
 -- the text is that of a zone, and this is how many sets it has

@@ -1,6 +1,7 @@
 -- The offsets that are kept, as a set, and how many pointers are followed.
 use Rattle.std.proofs.Common.{◌≡◌, ℕ, zero, suc, ◌+◌, ◌-◌, ◌^◌, ◌<◌, ◌≤◌, inl, inr, Bool}
-use Rattle.std.proofs.Common.{true, false, cond, List, [], ◌∷◌, ◌++◌, length, refl, ap, sym, ◌∙◌, subst, arith, length-append}
+use Rattle.std.proofs.Common.{true, false, cond, List, [], ◌∷◌, ◌++◌, length, refl, ap, sym, ◌∙◌, subst, arith}
+use Rattle.std.proofs.Common.{length-append}
 use Rattle.std.specs.Prelude.{Option, Some, None, is_some, min, nat_eq, ◌||◌, ◌&&◌, not}
 use Rattle.std.specs.Cmp.{nat_cmp_total, eq_by_cmp_equiv, unsigned_tied, unsigned_ties}
 use Rattle.std.specs.FinMap as map
@@ -13,14 +14,14 @@ use Rattle.std.proofs.lemmas.List.Folds.{list_any-append}
 use Rattle.std.proofs.lemmas.Map.Lookups.{exact_unsigned}
 use Rattle.base.specs.declared.wire.pointer_cache.Source.{Source}
 use Rattle.base.specs.declared.wire.pointer_cache.Source.TheVariants.{Nowhere, Message, Kept}
-use Rattle.base.specs.Labels.{wire_of}
-use Rattle.base.specs.Pointers.{AreKept, Cache, IsKept, IsSource, KeepsAt, targets_of}
-use Rattle.base.proofs.SpellingLemmas.{spelled_once}
+use Rattle.base.specs.names.Labels.{wire_of}
+use Rattle.base.specs.reading.Pointers.{AreKept, Cache, IsKept, IsSource, KeepsAt, targets_of}
+use Rattle.base.proofs.reading.SpellingLemmas.{spelled_once}
 use Rattle.std.specs.declared.cmp.Ordering.{Ordering}
 use Rattle.std.specs.declared.cmp.Ordering.TheVariants.{Less, Equal, Greater}
-use Rattle.base.specs.Passing.{is_among, inserted}
-use Rattle.base.specs.Spelling.{Spelled, ends, label, pointer}
-use Rattle.base.specs.Reader.{Reader}
+use Rattle.base.specs.reading.Passing.{is_among, inserted}
+use Rattle.base.specs.reading.Spelling.{Spelled, ends, label, pointer}
+use Rattle.base.specs.reading.Reader.{Reader}
 
 -- ---- the offsets that are kept as a set
 
@@ -47,7 +48,8 @@ not_kept cache q hasnt = go (map.get cache q) (sym (contains_kept cache q) ∙ h
   go None none = refl
   go (Some items) never = absurd (false≢true (sym never))
 
-pub targets_inserted : (cache : Cache) (t : ℕ) (items : List ℕ) → targets_of (map.insert cache t items) ≡ set.insert (targets_of cache) t
+pub targets_inserted : (cache : Cache) (t : ℕ) (items : List ℕ)
+    → targets_of (map.insert cache t items) ≡ set.insert (targets_of cache) t
 targets_inserted cache t items = set.same_set nat_cmp_total nat_cmp-IsAntisymmetric _ _ (λ q.
     contains_kept (map.insert cache t items) q
     ∙ ap is_some (map.get-insert nat_cmp_total cache t items q)
@@ -58,30 +60,35 @@ targets_inserted cache t items = set.same_set nat_cmp_total nat_cmp-IsAntisymmet
 some_is : {A : Type 0} (x y : A) → ◌≡◌ {A = Option A} (Some x) (Some y) → x ≡ y
 some_is x y same = cc
 
-pub kept_are : (bytes : List ℕ) (cache : Cache) (t : ℕ) (items : List ℕ) → AreKept bytes cache → IsKept bytes t items → AreKept bytes (map.insert cache t items)
-kept_are bytes cache t items are one u xs is = go (eq_by_cmp nat_cmp u t) refl (sym (map.get-insert nat_cmp_total cache t items u) ∙ is) where
-  go : (b : Bool) → eq_by_cmp nat_cmp u t ≡ b → cond b (Some items) (map.get cache u) ≡ Some xs → IsKept bytes u xs
-  go true tied at =
-      let same : u ≡ t = eqb-true u t (sym (unsigned_tied u t) ∙ tied) in
-      subst (λ (k : ℕ). IsKept bytes k xs) (sym same) (subst (IsKept bytes t) (some_is items xs at) one)
-  go false differ at = are u xs at
+pub kept_are : (bytes : List ℕ) (cache : Cache) (t : ℕ) (items : List ℕ) → AreKept bytes cache → IsKept bytes t items
+    → AreKept bytes (map.insert cache t items)
+kept_are bytes cache t items are one u xs is =
+    go (eq_by_cmp nat_cmp u t) refl (sym (map.get-insert nat_cmp_total cache t items u) ∙ is) where
+      go : (b : Bool) → eq_by_cmp nat_cmp u t ≡ b → cond b (Some items) (map.get cache u) ≡ Some xs → IsKept bytes u xs
+      go true tied at =
+          let same : u ≡ t = eqb-true u t (sym (unsigned_tied u t) ∙ tied) in
+          subst (λ (k : ℕ). IsKept bytes k xs) (sym same) (subst (IsKept bytes t) (some_is items xs at) one)
+      go false differ at = are u xs at
 
 kept_once : {bytes : List ℕ} {t : ℕ} {xs ys : List ℕ} → IsKept bytes t xs → IsKept bytes t ys → xs ≡ ys
 kept_once x y = sym x.wire.whole ∙ ap wire_of (spelled_once x.spelled y.spelled).0 ∙ y.wire.whole
 
-pub kept_at : (bytes : List ℕ) (cache : Cache) (q : ℕ) (labels : List ℕ) → AreKept bytes cache → KeepsAt bytes (targets_of cache) q labels → map.get cache q ≡ Some labels
+pub kept_at : (bytes : List ℕ) (cache : Cache) (q : ℕ) (labels : List ℕ) → AreKept bytes cache
+    → KeepsAt bytes (targets_of cache) q labels → map.get cache q ≡ Some labels
 kept_at bytes cache q labels are at = go (map.get cache q) refl where
   go : (o : Option (List ℕ)) → map.get cache q ≡ o → map.get cache q ≡ Some labels
   go None none = absurd (false≢true (sym (ap is_some none) ∙ sym (contains_kept cache q) ∙ at.0))
   go (Some items) found = found ∙ ap (λ (xs : List ℕ). Some xs) (kept_once (are q items found) at.1)
 
 -- a source by what is said of its labels
-pub same_source : (A B : ℕ → List ℕ → Type 0) (source : Source) (labels : List ℕ) → ((q : ℕ) → A q labels → B q labels) → IsSource A source labels → IsSource B source labels
+pub same_source : (A B : ℕ → List ℕ → Type 0) (source : Source) (labels : List ℕ) → ((q : ℕ) → A q labels → B q labels)
+    → IsSource A source labels → IsSource B source labels
 same_source A B Nowhere labels gives is = tt
 same_source A B (Message same) labels gives is = is
 same_source A B (Kept q) labels gives is = gives q is
 
-pub kept_near : (bytes : List ℕ) (cache : Cache) → AreKept bytes cache → (q : ℕ) → set.contains (targets_of cache) q ≡ true → q < 16384
+pub kept_near : (bytes : List ℕ) (cache : Cache) → AreKept bytes cache → (q : ℕ)
+    → set.contains (targets_of cache) q ≡ true → q < 16384
 kept_near bytes cache are q is = go (map.get cache q) refl (sym (contains_kept cache q) ∙ is) where
   go : (o : Option (List ℕ)) → map.get cache q ≡ o → is_some o ≡ true → q < 16384
   go None at some = absurd (false≢true some)
@@ -89,16 +96,23 @@ kept_near bytes cache are q is = go (map.get cache q) refl (sym (contains_kept c
 
 -- ---- how many there are
 
-gone : (s : set.FinSet nat_cmp) (n q : ℕ) → set.contains (set.remove s n) q ≡ true → (q ≡ n → ⊥) × (set.contains s q ≡ true)
+gone : (s : set.FinSet nat_cmp) (n q : ℕ) → set.contains (set.remove s n) q ≡ true
+    → (q ≡ n → ⊥) × (set.contains s q ≡ true)
 gone s n q is = go (eq_by_cmp nat_cmp q n) refl (sym (set.contains-remove nat_cmp_total s n q) ∙ is) where
-  go : (b : Bool) → eq_by_cmp nat_cmp q n ≡ b → (not b && set.contains s q) ≡ true → (q ≡ n → ⊥) × (set.contains s q ≡ true)
+  go : (b : Bool) → eq_by_cmp nat_cmp q n ≡ b → (not b && set.contains s q) ≡ true
+      → (q ≡ n → ⊥) × (set.contains s q ≡ true)
   go true equal never = absurd (false≢true never)
-  go false differ has = ((λ same. false≢true (sym differ ∙ ap (eq_by_cmp nat_cmp q) (sym same) ∙ (eq_by_cmp_equiv nat_cmp_total).refl q)), has)
+  go false differ has = (
+    (λ same. false≢true
+        (sym differ ∙ ap (eq_by_cmp nat_cmp q) (sym same) ∙ (eq_by_cmp_equiv nat_cmp_total).refl q)),
+    has,
+  )
 
 -- numbers below n are at most n
 pub few_below : (n : ℕ) (s : set.FinSet nat_cmp) → ((q : ℕ) → set.contains s q ≡ true → q < n) → set.len s ≤ n
 few_below zero s below =
-    let none : (q : ℕ) → set.contains s q ≡ set.contains (set.empty {R = nat_cmp}) q = λ q. elim (cases_Bool (set.contains s q)) [
+    let none : (q : ℕ) → set.contains s q ≡ set.contains (set.empty {R = nat_cmp}) q =
+    λ q. elim (cases_Bool (set.contains s q)) [
       | inl has ↦ absurd (omega (arith, below q has))
       | inr hasnt ↦ hasnt ∙ sym (set.contains-empty nat_cmp q)
     ] in
@@ -124,11 +138,15 @@ equal_is Greater is = absurd (false≢true is)
 pub same_members : (a b : set.FinSet nat_cmp) → ((q : ℕ) → set.contains a q ≡ set.contains b q) → a ≡ b
 same_members = set.same_set nat_cmp_total nat_cmp-IsAntisymmetric
 
-pub contains-inserted : (ts : List ℕ) (s : set.FinSet nat_cmp) (q : ℕ) → set.contains (inserted ts s) q ≡ (set.contains s q || is_among ts q)
-contains-inserted ts s q = set.contains-union nat_cmp_total s (set.from_list ts) q ∙ ap (λ (b : Bool). set.contains s q || b) (set.contains-from_list_nat ts q)
+pub contains-inserted : (ts : List ℕ) (s : set.FinSet nat_cmp) (q : ℕ)
+    → set.contains (inserted ts s) q ≡ (set.contains s q || is_among ts q)
+contains-inserted ts s q = set.contains-union nat_cmp_total s (set.from_list ts) q
+    ∙ ap (λ (b : Bool). set.contains s q || b) (set.contains-from_list_nat ts q)
 
-pub contains-one_more : (s : set.FinSet nat_cmp) (t q : ℕ) → set.contains (set.insert s t) q ≡ (nat_eq t q || set.contains s q)
-contains-one_more s t q = set.contains-insert nat_cmp_total s t q ∙ ap (λ (b : Bool). b || set.contains s q) (sym (unsigned_ties t q ∙ (eq_by_cmp_equiv nat_cmp_total).symm t q))
+pub contains-one_more : (s : set.FinSet nat_cmp) (t q : ℕ)
+    → set.contains (set.insert s t) q ≡ (nat_eq t q || set.contains s q)
+contains-one_more s t q = set.contains-insert nat_cmp_total s t q
+    ∙ ap (λ (b : Bool). b || set.contains s q) (sym (unsigned_ties t q ∙ (eq_by_cmp_equiv nat_cmp_total).symm t q))
 
 pub inserted-none : (s : set.FinSet nat_cmp) → inserted [] s ≡ s
 inserted-none s = same_members (inserted [] s) s (λ q. contains-inserted [] s q ∙ or-false (set.contains s q))
@@ -136,7 +154,8 @@ inserted-none s = same_members (inserted [] s) s (λ q. contains-inserted [] s q
 after_all : (a b c : Bool) → (a || (b || (c || false))) ≡ (c || (a || b))
 after_all a b c = ap (λ (last : Bool). a || (b || last)) (or-false c) ∙ sym (or_assoc a b c) ∙ or_comm (a || b) c
 
-pub inserted-push : (ts : List ℕ) (t : ℕ) (s : set.FinSet nat_cmp) → inserted (ts ++ t ∷ []) s ≡ set.insert (inserted ts s) t
+pub inserted-push : (ts : List ℕ) (t : ℕ) (s : set.FinSet nat_cmp)
+    → inserted (ts ++ t ∷ []) s ≡ set.insert (inserted ts s) t
 inserted-push ts t s = same_members _ _ (λ q.
     contains-inserted (ts ++ t ∷ []) s q
     ∙ ap (λ (b : Bool). set.contains s q || b) (list_any-append (λ (y : ℕ). nat_eq y q) ts (t ∷ []))
@@ -168,7 +187,8 @@ pub record Follows (ts : List ℕ) (start : ℕ) (old new : Reader) : Type 0 whe
   pub jumps : old.jumps + length ts < 2 ^ 64 → new.jumps ≡ old.jumps + length ts
   pub all : set.len (inserted ts old.kept) ≡ set.len old.kept + length ts
   pub few : set.len old.kept ≤ 16384 → set.len (inserted ts old.kept) ≤ 16384
-  pub near : ((q : ℕ) → set.contains old.kept q ≡ true → q < 16384) → (q : ℕ) → set.contains (inserted ts old.kept) q ≡ true → q < 16384
+  pub near : ((q : ℕ) → set.contains old.kept q ≡ true → q < 16384) → (q : ℕ)
+      → set.contains (inserted ts old.kept) q ≡ true → q < 16384
   pub fresh : (q : ℕ) → q < start → set.contains (inserted ts old.kept) q ≡ set.contains old.kept q
 
 pub Follows-none : (start : ℕ) (old : Reader) → Follows [] start old old
@@ -181,8 +201,10 @@ Follows-none start old = record {
   fresh = λ q below. ap (λ (k : set.FinSet nat_cmp). set.contains k q) (inserted-none old.kept);
 }
 
-module _ {ts : List ℕ} {start t : ℕ} {old new after : Reader} (f : Follows ts start old new) (below : t < start) (small : t < 16384)
-    (absent : set.contains new.kept t ≡ false) (near : (q : ℕ) → set.contains new.kept q ≡ true → q < 16384) (is : after ≡ record new { jumps = min (new.jumps + 1) (2 ^ 64 - 1) }) where
+module _ {ts : List ℕ} {start t : ℕ} {old new after : Reader} (f : Follows ts start old new) (below : t < start)
+    (small : t < 16384)
+    (absent : set.contains new.kept t ≡ false) (near : (q : ℕ) → set.contains new.kept q ≡ true → q < 16384)
+    (is : after ≡ record new { jumps = min (new.jumps + 1) (2 ^ 64 - 1) }) where
   kept : new.kept ≡ old.kept
   kept = ap (λ (r : Reader). r.kept) f.now
 
@@ -190,19 +212,24 @@ module _ {ts : List ℕ} {start t : ℕ} {old new after : Reader} (f : Follows t
   not_yet = f.fresh t below ∙ ap (λ (k : set.FinSet nat_cmp). set.contains k t) (sym kept) ∙ absent
 
   len : set.len (inserted (ts ++ t ∷ []) old.kept) ≡ set.len (inserted ts old.kept) + 1
-  len = ap set.len (inserted-push ts t old.kept) ∙ set.len-insert nat_cmp_total (inserted ts old.kept) t ∙ cond-false (set.contains (inserted ts old.kept) t) _ _ not_yet
+  len = ap set.len (inserted-push ts t old.kept) ∙ set.len-insert nat_cmp_total (inserted ts old.kept) t
+      ∙ cond-false (set.contains (inserted ts old.kept) t) _ _ not_yet
 
-  has : (q : ℕ) → set.contains (inserted (ts ++ t ∷ []) old.kept) q ≡ (eq_by_cmp nat_cmp q t || set.contains (inserted ts old.kept) q)
-  has q = ap (λ (k : set.FinSet nat_cmp). set.contains k q) (inserted-push ts t old.kept) ∙ set.contains-insert nat_cmp_total (inserted ts old.kept) t q
+  has : (q : ℕ) → set.contains (inserted (ts ++ t ∷ []) old.kept) q
+      ≡ (eq_by_cmp nat_cmp q t || set.contains (inserted ts old.kept) q)
+  has q = ap (λ (k : set.FinSet nat_cmp). set.contains k q) (inserted-push ts t old.kept)
+      ∙ set.contains-insert nat_cmp_total (inserted ts old.kept) t q
 
-  near_all : ((q : ℕ) → set.contains old.kept q ≡ true → q < 16384) → (q : ℕ) → set.contains (inserted (ts ++ t ∷ []) old.kept) q ≡ true → q < 16384
+  near_all : ((q : ℕ) → set.contains old.kept q ≡ true → q < 16384) → (q : ℕ)
+      → set.contains (inserted (ts ++ t ∷ []) old.kept) q ≡ true → q < 16384
   near_all near_old q one = go (eq_by_cmp nat_cmp q t) refl (sym (has q) ∙ one) where
     go : (b : Bool) → eq_by_cmp nat_cmp q t ≡ b → (b || set.contains (inserted ts old.kept) q) ≡ true → q < 16384
     go true equal all = omega (arith, exact_unsigned q t (equal_is (nat_cmp q t) equal))
     go false differ all = f.near near_old q all
 
   few_all : set.len (inserted (ts ++ t ∷ []) old.kept) ≤ 16384
-  few_all = few_below 16384 (inserted (ts ++ t ∷ []) old.kept) (near_all (subst (λ (k : set.FinSet nat_cmp). (q : ℕ) → set.contains k q ≡ true → q < 16384) kept near))
+  few_all = few_below 16384 (inserted (ts ++ t ∷ []) old.kept)
+      (near_all (subst (λ (k : set.FinSet nat_cmp). (q : ℕ) → set.contains k q ≡ true → q < 16384) kept near))
 
   fresh_all : (q : ℕ) → q < t → set.contains (inserted (ts ++ t ∷ []) old.kept) q ≡ set.contains old.kept q
   fresh_all q less = has q ∙ go (eq_by_cmp nat_cmp q t) refl where
@@ -212,8 +239,14 @@ module _ {ts : List ℕ} {start t : ℕ} {old new after : Reader} (f : Follows t
 
   pub Follows-push : Follows (ts ++ t ∷ []) t old after
   Follows-push = record {
-    now = is ∙ ap (λ (r : Reader). record r { jumps = min (new.jumps + 1) (2 ^ 64 - 1) }) f.now ∙ ap (λ (j : ℕ). record old { jumps = j }) (sym (ap (λ (r : Reader). r.jumps) is));
-    jumps = λ fits. omega (arith, ap (λ (r : Reader). r.jumps) is, f.jumps (omega (arith, length-append ts (t ∷ []))), length-append ts (t ∷ []));
+    now = is ∙ ap (λ (r : Reader). record r { jumps = min (new.jumps + 1) (2 ^ 64 - 1) }) f.now
+        ∙ ap (λ (j : ℕ). record old { jumps = j }) (sym (ap (λ (r : Reader). r.jumps) is));
+    jumps = λ fits. omega (
+      arith,
+      ap (λ (r : Reader). r.jumps) is,
+      f.jumps (omega (arith, length-append ts (t ∷ []))),
+      length-append ts (t ∷ []),
+    );
     all = omega (arith, len, f.all, length-append ts (t ∷ []));
     few = λ few. few_all;
     near = near_all;

@@ -1,26 +1,31 @@
 -- The pieces of a name: labels up to a zero byte or a pointer.
 use Rattle.std.proofs.Common.{◌≡◌, ℕ, ◌+◌, ◌-◌, ◌<◌, ◌≤◌, List, [], ◌∷◌, ◌++◌, length, take, drop, get_or, inl, inr}
-use Rattle.std.proofs.Common.{Option, None, Some, Result, Ok, Err, true, refl, ap, sym, ◌∙◌, subst, arith, append_assoc, get_or-take, length-drop, length-take}
+use Rattle.std.proofs.Common.{Option, None, Some, Result, Ok, Err, true, refl, ap, sym, ◌∙◌, subst, arith, append_assoc}
+use Rattle.std.proofs.Common.{get_or-take, length-drop, length-take}
 use Rattle.std.proofs.Math.Seq.{take-add}
 use Rattle.std.proofs.lemmas.Bool.{cases_lt}
 use Rattle.std.proofs.lemmas.List.{append-nil, drop-drop, get_or-drop}
 use Rattle.std.specs.FinSet as set
 use Rattle.std.specs.List.{slice_range}
-use Rattle.base.specs.Pointers.{AreTooLong, IsKept, PassesThese}
-use Rattle.base.specs.Pieces.{IsPiece, IsRefusedIn, LabelsUpTo, RefusedAt, ending_of, no_label, one_more, nothing_there, too_long}
-use Rattle.base.specs.Labels.{IsWire, labels_of}
-use Rattle.base.specs.Names.{NamePart, label_of, labels_at, part_at}
+use Rattle.base.specs.reading.Pointers.{AreTooLong, IsKept, PassesThese}
+use Rattle.base.specs.reading.Pieces.{IsPiece, IsRefusedIn, LabelsUpTo, RefusedAt, ending_of, no_label, one_more}
+use Rattle.base.specs.reading.Pieces.{nothing_there, too_long}
+use Rattle.base.specs.names.Labels.{IsWire, labels_of}
+use Rattle.base.specs.reading.Names.{NamePart, label_of, labels_at, part_at}
 use Rattle.base.specs.declared.name.reading.FollowedPointer.{FollowedPointer}
 use Rattle.base.specs.declared.name.reading.NamePiece.{NamePiece}
-use Rattle.base.specs.Spelling.{ByteAt, anywhere}
-use Rattle.base.specs.Passing.{IsClosed}
-use Rattle.base.specs.Reader.{Reader}
+use Rattle.base.specs.reading.Spelling.{ByteAt, anywhere}
+use Rattle.base.specs.reading.Passing.{IsClosed}
+use Rattle.base.specs.reading.Reader.{Reader}
 use Rattle.base.specs.declared.error.decode_error.DecodeError.{DecodeError}
 use Rattle.base.specs.declared.error.decode_error.DecodeError.TheVariants as faults
-use Rattle.base.proofs.reading.GatherLemmas.{Gathers, IsWire-append, at_fault, at_kept, at_long, at_root, gathers_label, gathers_none, pointer_refused}
+use Rattle.base.proofs.reading.GatherLemmas.{Gathers, IsWire-append, at_fault, at_kept, at_long, at_root, gathers_label}
+use Rattle.base.proofs.reading.GatherLemmas.{gathers_none, pointer_refused}
 use Rattle.base.proofs.reading.PassLemmas.{Lead, Leads, Leads-kept, Leads-label, Leads-none, Leads-root}
-use Rattle.base.proofs.reading.WalkLemmas.{PartIs, byte, is_past, is_root, is_cut_label, is_label, is_bits, is_cut_pointer, is_pointer, part_is}
-use Rattle.base.proofs.reading.WalkLemmas.{part_at-past, part_at-root, part_at-cut_label, part_at-label, part_at-bits, part_at-cut_pointer, part_at-pointer}
+use Rattle.base.proofs.reading.WalkLemmas.{PartIs, byte, is_past, is_root, is_cut_label, is_label, is_bits}
+use Rattle.base.proofs.reading.WalkLemmas.{is_cut_pointer, is_pointer, part_is}
+use Rattle.base.proofs.reading.WalkLemmas.{part_at-past, part_at-root, part_at-cut_label, part_at-label, part_at-bits}
+use Rattle.base.proofs.reading.WalkLemmas.{part_at-cut_pointer, part_at-pointer}
 
 -- ---- what stands at a place of a piece stands in the buffer
 
@@ -31,23 +36,30 @@ in_buffer bytes s {k} h = record {
   seen = tt;
 }
 
-part_in_buffer : (bytes : List ℕ) (s k : ℕ) (read : Result NamePart DecodeError) → PartIs (drop s bytes) k read → part_at bytes (s + k) ≡ read
+part_in_buffer : (bytes : List ℕ) (s k : ℕ) (read : Result NamePart DecodeError) → PartIs (drop s bytes) k read
+    → part_at bytes (s + k) ≡ read
 part_in_buffer bytes s k _ (is_past h) = part_at-past bytes (s + k) (omega (arith, length-drop s bytes))
 part_in_buffer bytes s k _ (is_root h) = part_at-root bytes (s + k) (in_buffer bytes s h)
-part_in_buffer bytes s k _ (is_cut_label {n = n} h some small cut) = part_at-cut_label bytes (s + k) n (in_buffer bytes s h) some small (omega (arith, length-drop s bytes))
-part_in_buffer bytes s k _ (is_label {n = n} h some small fits) = part_at-label bytes (s + k) n (in_buffer bytes s h) some small (omega (arith, in_piece h fits)) where
-  in_piece : ByteAt anywhere (drop s bytes) k n → k + 1 + n ≤ length (drop s bytes) → s + k + 1 + n ≤ length bytes
-  in_piece b inside = omega (arith, inside, length-drop s bytes)
+part_in_buffer bytes s k _ (is_cut_label {n = n} h some small cut) =
+    part_at-cut_label bytes (s + k) n (in_buffer bytes s h) some small (omega (arith, length-drop s bytes))
+part_in_buffer bytes s k _ (is_label {n = n} h some small fits) =
+    part_at-label bytes (s + k) n (in_buffer bytes s h) some small (omega (arith, in_piece h fits)) where
+      in_piece : ByteAt anywhere (drop s bytes) k n → k + 1 + n ≤ length (drop s bytes) → s + k + 1 + n ≤ length bytes
+      in_piece b inside = omega (arith, inside, length-drop s bytes)
 part_in_buffer bytes s k _ (is_bits {b = b} h low high) = part_at-bits bytes (s + k) b (in_buffer bytes s h) low high
-part_in_buffer bytes s k _ (is_cut_pointer {b = b} h high cut) = part_at-cut_pointer bytes (s + k) b (in_buffer bytes s h) high (omega (arith, length-drop s bytes))
+part_in_buffer bytes s k _ (is_cut_pointer {b = b} h high cut) =
+    part_at-cut_pointer bytes (s + k) b (in_buffer bytes s h) high (omega (arith, length-drop s bytes))
 part_in_buffer bytes s k _ (is_pointer {b = b} {c = c} h next high) =
     let there : s + (k + 1) ≡ s + k + 1 = omega arith in
-    part_at-pointer bytes (s + k) b c (in_buffer bytes s h) (subst (λ (i : ℕ). ByteAt anywhere bytes i c) there (in_buffer bytes s next)) high
+    part_at-pointer bytes (s + k) b c (in_buffer bytes s h)
+    (subst (λ (i : ℕ). ByteAt anywhere bytes i c) there (in_buffer bytes s next)) high
 
 -- what stands at a place of the bytes from s on
-pub part_is_there : (bytes piece : List ℕ) (s k : ℕ) (part : Result NamePart DecodeError) → piece ≡ drop s bytes → part_at piece k ≡ part → part_at bytes (s + k) ≡ part
+pub part_is_there : (bytes piece : List ℕ) (s k : ℕ) (part : Result NamePart DecodeError) → piece ≡ drop s bytes
+    → part_at piece k ≡ part → part_at bytes (s + k) ≡ part
 part_is_there bytes piece s k part same is =
-    part_in_buffer bytes s k (part_at (drop s bytes) k) (part_is (drop s bytes) k) ∙ ap (λ (xs : List ℕ). part_at xs k) (sym same) ∙ is
+    part_in_buffer bytes s k (part_at (drop s bytes) k) (part_is (drop s bytes) k)
+    ∙ ap (λ (xs : List ℕ). part_at xs k) (sym same) ∙ is
 
 -- ---- the labels of a piece, one after another
 
@@ -63,10 +75,12 @@ module _ (buffer : List ℕ) (s : ℕ) {len : ℕ} (labels : LabelsUpTo (drop s 
   abbrev piece : List ℕ
   piece = drop s buffer
 
-  there : (k : ℕ) (part : Result NamePart DecodeError) → part_at (drop s buffer) k ≡ part → part_at buffer (s + k) ≡ part
+  there : (k : ℕ) (part : Result NamePart DecodeError) → part_at (drop s buffer) k ≡ part
+      → part_at buffer (s + k) ≡ part
   there k part is = part_is_there buffer (drop s buffer) s k part refl is
 
-  pub gathers_piece : {first before used : ℕ} {bytes : List ℕ} {end : Option ℕ} → Gathers buffer first before s s used bytes end → used + len ≤ 254
+  pub gathers_piece : {first before used : ℕ} {bytes : List ℕ} {end : Option ℕ}
+      → Gathers buffer first before s s used bytes end → used + len ≤ 254
       → Gathers buffer first before s (s + len) (used + len) (bytes ++ take len (drop s buffer)) end
   gathers_piece {first} {before} {used} {bytes} {end} g short =
       let So : ℕ → Type 0 = λ k. Gathers buffer first before s (s + k) (used + k) (bytes ++ take k piece) end in
@@ -82,19 +96,23 @@ module _ (buffer : List ℕ) (s : ℕ) {len : ℕ} (labels : LabelsUpTo (drop s 
       let from : drop i piece ≡ drop at buffer = drop-drop i s buffer ∙ ap (λ (k : ℕ). drop k buffer) (omega arith) in
       let many : size ≡ at + size - at = omega arith in
       let more : take (i + size) piece ≡ take i piece ++ slice_range buffer at (at + size) =
-      take-add i size piece ∙ ap (λ (xs : List ℕ). take i piece ++ take size xs) from ∙ ap (λ (k : ℕ). take i piece ++ take k (drop at buffer)) many in
+      take-add i size piece ∙ ap (λ (xs : List ℕ). take i piece ++ take size xs) from
+      ∙ ap (λ (k : ℕ). take i piece ++ take k (drop at buffer)) many in
       let all : bytes ++ take (i + size) piece ≡ (bytes ++ take i piece) ++ slice_range buffer at (at + size) =
-      ap (λ (xs : List ℕ). bytes ++ xs) more ∙ sym (append_assoc bytes (take i piece) (slice_range buffer at (at + size))) in
+      ap (λ (xs : List ℕ). bytes ++ xs) more ∙ sym
+      (append_assoc bytes (take i piece) (slice_range buffer at (at + size))) in
       let next : at + size ≡ s + (i + size) = omega arith in
       let sum : used + i + size ≡ used + (i + size) = omega arith in
       subst (λ (k : ℕ). Gathers buffer first before s k (used + (i + size)) (bytes ++ take (i + size) piece) end) next
       (subst (λ (u : ℕ). Gathers buffer first before s (at + size) u (bytes ++ take (i + size) piece) end) sum
-      (gathers_label so n size (bytes ++ take (i + size) piece) (there i (Ok (label_of n)) is) refl (omega (arith, inside, short)) all)))
+      (gathers_label so n size (bytes ++ take (i + size) piece) (there i (Ok (label_of n)) is) refl
+      (omega (arith, inside, short)) all)))
 
   pub leads_piece : {first : ℕ} {ts : List ℕ} → Leads buffer first ts s s → Leads buffer first ts s (s + len)
   leads_piece {first} {ts} leads =
       let here : s ≡ s + 0 = omega arith in
-      over_labels (λ k. Leads buffer first ts s (s + k)) labels (subst (λ (k : ℕ). Leads buffer first ts s k) here leads)
+      over_labels (λ k. Leads buffer first ts s (s + k)) labels
+      (subst (λ (k : ℕ). Leads buffer first ts s k) here leads)
       (λ i n inside is so. Leads-label so (there i (Ok (label_of n)) is) (omega arith))
 
   pub lead_piece : (ps : List FollowedPointer) → Lead buffer ps s s → Lead buffer ps s (s + len)
@@ -102,17 +120,20 @@ module _ (buffer : List ℕ) (s : ℕ) {len : ℕ} (labels : LabelsUpTo (drop s 
   lead_piece (p ∷ ps) lead = (leads_piece lead.0, lead_piece ps lead.1)
 
 -- what ends a piece stands in the buffer
-pub piece_end : (buffer : List ℕ) (s : ℕ) {bytes : List ℕ} {before : ℕ} {piece : NamePiece} → bytes ≡ drop s buffer → IsPiece bytes before piece → part_at buffer (s + piece.len) ≡ Ok (ending_of piece.pointer)
+pub piece_end : (buffer : List ℕ) (s : ℕ) {bytes : List ℕ} {before : ℕ} {piece : NamePiece} → bytes ≡ drop s buffer
+    → IsPiece bytes before piece → part_at buffer (s + piece.len) ≡ Ok (ending_of piece.pointer)
 piece_end buffer s {bytes} {piece = of} same p = part_is_there buffer bytes s of.len _ same p.end
 
-pub piece_fits : {bytes : List ℕ} {before : ℕ} {piece : NamePiece} → IsPiece bytes before piece → piece.len ≤ length bytes
+pub piece_fits : {bytes : List ℕ} {before : ℕ} {piece : NamePiece} → IsPiece bytes before piece
+    → piece.len ≤ length bytes
 piece_fits {bytes} {piece = of} p = elim (cases_lt (length bytes) of.len) [
   | inl past ↦ absurd (cc (sym (part_at-past bytes of.len (omega (arith, past))) ∙ p.end))
   | inr inside ↦ inside
 ]
 
 -- a name is refused where one of its pieces is
-pub piece_refused : {buffer piece : List ℕ} {first before s used : ℕ} {bytes : List ℕ} {end : Option ℕ} {e : DecodeError} → Gathers buffer first before s s used bytes end
+pub piece_refused : {buffer piece : List ℕ} {first before s used : ℕ} {bytes : List ℕ} {end : Option ℕ}
+    {e : DecodeError} → Gathers buffer first before s s used bytes end
     → piece ≡ drop s buffer → IsRefusedIn piece used e → labels_at buffer first first before ≡ Err e
 piece_refused {buffer} {piece} {first} {before} {s} {used} {bytes} {end} {e} g same refused = go e r.refused where
   r : IsRefusedIn (drop s buffer) used e
@@ -123,7 +144,8 @@ piece_refused {buffer} {piece} {first} {before} {s} {used} {bytes} {end} {e} g s
 
   go : (f : DecodeError) → RefusedAt (drop s buffer) used r.at f → labels_at buffer first first before ≡ Err f
   go f (nothing_there is) = at_fault (gathers_piece buffer s r.labels g r.short) f (there (Err f) is)
-  go f (too_long {n = n} is long) = at_long (gathers_piece buffer s r.labels g r.short) n (there (Ok (label_of n)) is) (omega (arith, long))
+  go f (too_long {n = n} is long) = at_long (gathers_piece buffer s r.labels g r.short) n (there (Ok (label_of n)) is)
+      (omega (arith, long))
 
 -- ---- the piece that is read at the front of bytes, over those of them that a name has at most
 
@@ -139,27 +161,34 @@ pub record AfterLabels (bytes : List ℕ) (before i b : ℕ) : Type 0 where
   pub short : before + i ≤ 254
 
 -- where nothing can stand after labels
-pub none_after : {bytes : List ℕ} {before i b : ℕ} {e : DecodeError} → AfterLabels bytes before i b → part_at bytes i ≡ Err e → IsRefusedIn bytes before e
+pub none_after : {bytes : List ℕ} {before i b : ℕ} {e : DecodeError} → AfterLabels bytes before i b
+    → part_at bytes i ≡ Err e → IsRefusedIn bytes before e
 none_after {i = i} after is = record { at = i; labels = after.labels; short = after.short; refused = nothing_there is }
 
 module _ (bytes : List ℕ) {near : List ℕ} (m : ℕ) (near_is : near ≡ take m bytes) where
   pub near_fits : (length near ≤ m) × (length near ≤ length bytes)
-  near_fits = (omega (arith, ap length near_is, length-take m bytes), omega (arith, ap length near_is, length-take m bytes))
+  near_fits = (
+    omega (arith, ap length near_is, length-take m bytes),
+    omega (arith, ap length near_is, length-take m bytes),
+  )
 
   -- a byte among the near ones is one of all
   pub in_all : {i b : ℕ} → ByteAt anywhere near i b → ByteAt anywhere bytes i b
   in_all {i} {b} h = record {
     inside = omega (arith, h.inside, near_fits.1);
-    is = sym (ap (λ (xs : List ℕ). get_or xs i 0) near_is ∙ get_or-take m bytes i 0 (omega (arith, h.inside, near_fits.0))) ∙ h.is;
+    is = sym (ap (λ (xs : List ℕ). get_or xs i 0) near_is
+        ∙ get_or-take m bytes i 0 (omega (arith, h.inside, near_fits.0))) ∙ h.is;
     seen = tt;
   }
 
   pub walked_labels : {i : ℕ} → WalkedTo near i → i ≤ length bytes → LabelsUpTo bytes i
   walked_labels at_front inside = no_label
   walked_labels (past {i = i} {n = n} walked h some small) inside =
-      one_more (walked_labels walked (omega (arith, inside))) (part_at-label bytes i n (in_all h) some small (omega (arith, inside)))
+      one_more (walked_labels walked (omega (arith, inside)))
+      (part_at-label bytes i n (in_all h) some small (omega (arith, inside)))
 
-  pub after_labels : {i b : ℕ} (before : ℕ) → m + before ≤ 255 → WalkedTo near i → i < length near → get_or near i 0 ≡ b → AfterLabels bytes before i b
+  pub after_labels : {i b : ℕ} (before : ℕ) → m + before ≤ 255 → WalkedTo near i → i < length near → get_or near i 0 ≡ b
+      → AfterLabels bytes before i b
   after_labels {i} {b} before few walked begins is = record {
     here = in_all (byte near i b begins is);
     labels = walked_labels walked (omega (arith, begins, near_fits.1));
@@ -167,12 +196,15 @@ module _ (bytes : List ℕ) {near : List ℕ} (m : ℕ) (near_is : near ≡ take
   }
 
   -- the bytes end before the piece does
-  pub walked_cut : {i : ℕ} (before : ℕ) → m + before ≤ 255 → WalkedTo near i → length bytes < i → IsRefusedIn bytes before faults.InsufficientBytes
+  pub walked_cut : {i : ℕ} (before : ℕ) → m + before ≤ 255 → WalkedTo near i → length bytes < i
+      → IsRefusedIn bytes before faults.InsufficientBytes
   walked_cut before few at_front cut = absurd (omega (arith, cut))
   walked_cut before few (past {i = i} {n = n} walked h some small) cut =
-      none_after (after_labels before few walked h.inside h.is) (part_at-cut_label bytes i n (in_all h) some small (omega (arith, cut)))
+      none_after (after_labels before few walked h.inside h.is)
+      (part_at-cut_label bytes i n (in_all h) some small (omega (arith, cut)))
 
-  pub walked_off : {i : ℕ} (before : ℕ) → WalkedTo near i → i ≡ length bytes → before + i ≤ 254 → IsRefusedIn bytes before faults.InsufficientBytes
+  pub walked_off : {i : ℕ} (before : ℕ) → WalkedTo near i → i ≡ length bytes → before + i ≤ 254
+      → IsRefusedIn bytes before faults.InsufficientBytes
   walked_off {i} before walked off short = record {
     at = i;
     labels = walked_labels walked (omega (arith, off));
@@ -181,7 +213,8 @@ module _ (bytes : List ℕ) {near : List ℕ} (m : ℕ) (near_is : near ≡ take
   }
 
   -- the name gets too long
-  pub walked_long : {i : ℕ} (before : ℕ) → m + before ≤ 255 → before ≤ 254 → WalkedTo near i → i ≤ length bytes → 255 ≤ before + i → IsRefusedIn bytes before faults.BadName
+  pub walked_long : {i : ℕ} (before : ℕ) → m + before ≤ 255 → before ≤ 254 → WalkedTo near i → i ≤ length bytes
+      → 255 ≤ before + i → IsRefusedIn bytes before faults.BadName
   walked_long before few small_before at_front inside long = absurd (omega (arith, small_before, long))
   walked_long before few small_before (past {i = i} {n = n} walked h some small) inside long =
       let after = after_labels before few walked h.inside h.is in
@@ -189,7 +222,8 @@ module _ (bytes : List ℕ) {near : List ℕ} (m : ℕ) (near_is : near ≡ take
         at = i;
         labels = after.labels;
         short = after.short;
-        refused = too_long (part_at-label bytes i n after.here some small (omega (arith, inside))) (omega (arith, long));
+        refused = too_long (part_at-label bytes i n after.here some small (omega (arith, inside)))
+            (omega (arith, long));
       }
 
 -- ---- a name whose own piece is all that is read
@@ -200,7 +234,8 @@ pub record IsName (r : Reader) (labels : List ℕ) (after : ℕ) : Type 0 where
   pub wire : IsWire labels
   pub these : PassesThese r.bytes r.kept r.index []
 
-module _ (r : Reader) {front : List ℕ} {piece : NamePiece} (inside : r.index ≤ length r.bytes) (same : front ≡ drop r.index r.bytes) (front_is : IsPiece front 0 piece) where
+module _ (r : Reader) {front : List ℕ} {piece : NamePiece} (inside : r.index ≤ length r.bytes)
+    (same : front ≡ drop r.index r.bytes) (front_is : IsPiece front 0 piece) where
   is : IsPiece (drop r.index r.bytes) 0 piece
   is = subst (λ (xs : List ℕ). IsPiece xs 0 piece) same front_is
 
@@ -223,15 +258,18 @@ module _ (r : Reader) {front : List ℕ} {piece : NamePiece} (inside : r.index �
     these = Leads-root leads r.kept (part (ap ending_of none));
   }
 
-  pub name_kept : {t : ℕ} (items : List ℕ) → piece.pointer ≡ Some t → t < r.index → IsKept r.bytes t items → piece.len + length items ≤ 254
-      → set.contains r.kept t ≡ true → IsClosed r.bytes r.kept → IsName r (take piece.len (drop r.index r.bytes) ++ items) (r.index + piece.len + 2)
+  pub name_kept : {t : ℕ} (items : List ℕ) → piece.pointer ≡ Some t → t < r.index → IsKept r.bytes t items
+      → piece.len + length items ≤ 254
+      → set.contains r.kept t ≡ true → IsClosed r.bytes r.kept
+      → IsName r (take piece.len (drop r.index r.bytes) ++ items) (r.index + piece.len + 2)
   name_kept items some below kept short has closed = record {
     read = at_kept gathers (part (ap ending_of some)) below kept (omega (arith, short));
     wire = IsWire-append own items gathers.wire kept.wire (omega (arith, short, gathers.len));
     these = Leads-kept leads r.kept (part (ap ending_of some)) has closed;
   }
 
-  pub pointed_nowhere : {t : ℕ} → piece.pointer ≡ Some t → (t < r.index → AreTooLong r.bytes t piece.len) → labels_at r.bytes r.index r.index 0 ≡ Err faults.BadName
+  pub pointed_nowhere : {t : ℕ} → piece.pointer ≡ Some t → (t < r.index → AreTooLong r.bytes t piece.len)
+      → labels_at r.bytes r.index r.index 0 ≡ Err faults.BadName
   pointed_nowhere {t} some long =
       let all : piece.len ≡ 0 + piece.len = omega arith in
       pointer_refused gathers (part (ap ending_of some)) (λ below. subst (AreTooLong r.bytes t) all (long below))

@@ -2,7 +2,7 @@
 
 ghost use Rattle.base.specs.declared.limits.TheConstants.{INLINE_LABELS};
 ghost use Rattle.std.specs.Prelude.{◌≡◌, ◌≤◌, ◌+◌, ◌++◌, [], length, take};
-ghost use Rattle.base.specs.StoredLabels.{lower_labels};
+ghost use Rattle.base.specs.names.StoredLabels.{lower_labels};
 
 use crate::limits::INLINE_LABELS;
 use std::alloc::Global;
@@ -27,7 +27,7 @@ pub(crate) struct InlineLabels {
 impl Model for InlineLabels {
     ghost use Rattle.base.specs.declared.limits.TheConstants.{INLINE_LABELS};
     ghost use Rattle.std.specs.Prelude.{◌≤◌, take};
-    ghost use Rattle.base.specs.StoredLabels.{StoredLabels};
+    ghost use Rattle.base.specs.names.StoredLabels.{StoredLabels};
 
     ghost Value = { StoredLabels };
 

@@ -6,9 +6,9 @@ ghost use Rattle.std.specs.Char.{to_ascii_lowercase};
 ghost use Rattle.std.specs.Cmp.{partial_equiv_from_equiv};
 ghost use Rattle.std.specs.Cmp.Lexicographic.{slice_cmp};
 ghost use Rattle.std.specs.Ordering.{as_partial_cmp, nat_cmp};
-ghost use Rattle.base.specs.Labels.{NameValue, AreLabels, IsLabelRun, labels_of, wire_of};
-ghost use Rattle.base.specs.NameOrder.{canonical_cmp, is_zone_of, folded, folded_labels, lowered, labels_cmp, same_labels, same_name, name_cmp, name_fed};
-ghost use Rattle.base.specs.NameOrderLaws.{same_by-equiv, same_by-tie, cmp_by-total, cmp_by-partial, fed_by-same};
+ghost use Rattle.base.specs.names.Labels.{NameValue, AreLabels, IsLabelRun, labels_of, wire_of};
+ghost use Rattle.base.specs.names.NameOrder.{canonical_cmp, is_zone_of, folded, folded_labels, lowered, labels_cmp, same_labels, same_name, name_cmp, name_fed};
+ghost use Rattle.base.specs.names.NameOrderLaws.{same_by-equiv, same_by-tie, cmp_by-total, cmp_by-partial, fed_by-same};
 
 use crate::labels::Labels;
 use crate::limits::MAX_LABELS;

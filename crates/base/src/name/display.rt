@@ -1,7 +1,7 @@
 //! The text of names (RFC 1035, 5.1).
 
 ghost use Rattle.std.specs.Prelude.{◌≡◌, ◌++◌, [], ◌∷◌, IfSome, IsTrue, Some, if◌then◌else◌};
-ghost use Rattle.base.specs.NameText.{byte_text, is_special, label_text, name_text};
+ghost use Rattle.base.specs.texts.NameText.{byte_text, is_special, label_text, name_text};
 
 use crate::name::{Name, first_label};
 use std::{fmt, str};

@@ -2,15 +2,15 @@
 
 ghost use Rattle.base.specs.declared.limits.TheConstants.{MAX_NAME};
 ghost use Rattle.std.specs.Prelude.{◌≡◌, ◌≢◌, ◌↔◌, ℕ, ◌+◌, ◌<◌, ◌≤◌, List, [], ◌++◌, length, take, drop, All, Bool, Option, false};
-ghost use Rattle.base.specs.Compression.{IsCompressed};
-ghost use Rattle.base.specs.Faults.{IsFaulty};
-ghost use Rattle.base.specs.Labels.{NameValue, AreLabels, plain_len};
-ghost use Rattle.base.specs.Laws.{StoresSuffixes};
-ghost use Rattle.base.specs.NameText.{IsNameText, name_text};
-ghost use Rattle.base.specs.Names.{name_at};
-ghost use Rattle.base.specs.State.{State, Stored};
-ghost use Rattle.base.specs.Spelling.{Spelled, SpelledIn, KeepsSeen, IsNameAt, among, outside};
-ghost use Rattle.base.specs.Written.{after, name};
+ghost use Rattle.base.specs.writing.Compression.{IsCompressed};
+ghost use Rattle.base.specs.reading.Faults.{IsFaulty};
+ghost use Rattle.base.specs.names.Labels.{NameValue, AreLabels, plain_len};
+ghost use Rattle.base.specs.writing.Laws.{StoresSuffixes};
+ghost use Rattle.base.specs.texts.NameText.{IsNameText, name_text};
+ghost use Rattle.base.specs.reading.Names.{name_at};
+ghost use Rattle.base.specs.writing.State.{State, Stored};
+ghost use Rattle.base.specs.reading.Spelling.{Spelled, SpelledIn, KeepsSeen, IsNameAt, among, outside};
+ghost use Rattle.base.specs.writing.Written.{after, name};
 
 /// What `name_at` answers is what the bytes spell: the name that stands there, or the first fault.
 pub fn reading_is_spelling()

@@ -4,11 +4,11 @@ ghost use Rattle.base.specs.declared.limits.TheConstants.{MAX_LABELS};
 ghost use Rattle.std.specs.Prelude.{◌≡◌, ◌↔◌, ◌⊎◌, ◌<◌, ◌≤◌, ◌≢◌, List, ℕ, Bool, [], ◌∷◌, length, take, IfNone, IfOk, IfErr, IfSome, IsTrue};
 ghost use Rattle.std.specs.Char.{is_ascii_digit};
 ghost use Rattle.std.specs.Option.{option_copied, option_map};
-ghost use Rattle.base.specs.Labels.{NameValue, IsWire, labels_of};
-ghost use Rattle.base.specs.NameOf.{name_of};
-ghost use Rattle.base.specs.NameText.{IsLabelsText, IsNameText, decimal_char, escaped_char, first_char};
-ghost use Rattle.base.specs.TextChar.{character_of};
-ghost use Rattle.base.specs.TextFaults.{Gives};
+ghost use Rattle.base.specs.names.Labels.{NameValue, IsWire, labels_of};
+ghost use Rattle.base.specs.texts.NameOf.{name_of};
+ghost use Rattle.base.specs.texts.NameText.{IsLabelsText, IsNameText, decimal_char, escaped_char, first_char};
+ghost use Rattle.base.specs.texts.TextChar.{character_of};
+ghost use Rattle.base.specs.texts.TextFaults.{Gives};
 
 use crate::error::ParseError;
 use crate::labels::Labels;
@@ -77,7 +77,7 @@ impl Name {
 }
 
 /// The character of a backslash, this digit and two more digits, and the text after it.
-#[tactic(auto, unfolding(crate::specs::NameText::decimal_char))]
+#[tactic(auto, unfolding(crate::specs::texts::NameText::decimal_char))]
 fn decimal_char(first: u8, text: &[u8]) -> Option<(TextChar, &[u8])>
     requires { IsTrue (is_ascii_digit first) }
     ensures value { option_map (λ r. (character_of r.0, r.1.now)) result
@@ -100,7 +100,7 @@ fn decimal_char(first: u8, text: &[u8]) -> Option<(TextChar, &[u8])>
 }
 
 /// The character of a backslash and what is after it, and the text after that.
-#[tactic(auto, unfolding(crate::specs::NameText::escaped_char))]
+#[tactic(auto, unfolding(crate::specs::texts::NameText::escaped_char))]
 fn escaped_char(text: &[u8]) -> Option<(TextChar, &[u8])>
     ensures value { option_map (λ r. (character_of r.0, r.1.now)) result ≡ escaped_char text.now }
     ensures shorter { IfSome result (λ r. length r.1.now < length text.now) }
@@ -118,7 +118,7 @@ fn escaped_char(text: &[u8]) -> Option<(TextChar, &[u8])>
 }
 
 /// The first character of a text, and the text after it; none where the text begins with no character.
-#[tactic(auto, unfolding(crate::specs::NameText::first_char))]
+#[tactic(auto, unfolding(crate::specs::texts::NameText::first_char))]
 fn first_char(text: &[u8]) -> Option<(TextChar, &[u8])>
     ensures value { option_map (λ r. (character_of r.0, r.1.now)) result ≡ first_char text.now }
     ensures shorter { IfSome result (λ r. length r.1.now < length text.now) }

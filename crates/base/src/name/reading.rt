@@ -3,14 +3,14 @@
 ghost use Rattle.base.specs.declared.limits.TheConstants.{MAX_LABELS, POINTER_LIMIT};
 ghost use Rattle.std.specs.Prelude.{◌≡◌, ℕ, ◌<◌, ◌≤◌, ◌+◌, ◌++◌, ◌∷◌, [], Ok, Err, length, take, drop, IfErr, IfOk, IfSome, OnOk, OnErr, IsOkUnless, MatchResult, is_some, true};
 ghost use Rattle.std.specs.FinSet as set;
-ghost use Rattle.base.specs.Labels.{IsWire, labels_of};
-ghost use Rattle.base.specs.Names.{labels_at, name_at};
-ghost use Rattle.base.specs.Pieces.{IsPiece, IsPointed, IsRefusedIn};
-ghost use Rattle.base.specs.Pointers.{AreSpelled, AreTooLong, Followed, IsKept, IsSource, KeepsAt, OfLast, PassLater, PassesThese, targets};
-ghost use Rattle.base.specs.Passing.{IsClosed, inserted, passed};
-ghost use Rattle.base.specs.Reading.{Fails, Reads};
-ghost use Rattle.base.specs.Spelling.{Spelled};
-ghost use Rattle.base.specs.Tracks.{Tracks};
+ghost use Rattle.base.specs.names.Labels.{IsWire, labels_of};
+ghost use Rattle.base.specs.reading.Names.{labels_at, name_at};
+ghost use Rattle.base.specs.reading.Pieces.{IsPiece, IsPointed, IsRefusedIn};
+ghost use Rattle.base.specs.reading.Pointers.{AreSpelled, AreTooLong, Followed, IsKept, IsSource, KeepsAt, OfLast, PassLater, PassesThese, targets};
+ghost use Rattle.base.specs.reading.Passing.{IsClosed, inserted, passed};
+ghost use Rattle.base.specs.reading.Reading.{Fails, Reads};
+ghost use Rattle.base.specs.reading.Spelling.{Spelled};
+ghost use Rattle.base.specs.reading.Tracks.{Tracks};
 
 use crate::error::DecodeError;
 use crate::labels::Labels;
@@ -255,7 +255,7 @@ fn keep_targets<'a>(
 ///
 /// What `read` refuses.
 #[inline(always)]
-#[tactic(auto, unfolding(crate::specs::Names::name_at))]
+#[tactic(auto, unfolding(crate::specs::reading::Names::name_at))]
 fn read_following(
     decoder: &mut BinDecoder<'_>,
     own: &[u8],
@@ -297,7 +297,7 @@ impl BinDecodable for Name {
     /// `InsufficientBytes` where the buffer ends inside a piece of the name; `BadName` where the top bits of a byte are
     /// 01 or 10, where a pointer doesn't go below the start of its piece, and where the name would have more than 255
     /// bytes; `Memory` if memory runs out.
-    #[tactic(auto, unfolding(crate::specs::Names::name_at))]
+    #[tactic(auto, unfolding(crate::specs::reading::Names::name_at))]
     fn read(decoder: &mut BinDecoder<'_>) -> Result<Name, DecodeError>
         ensures read { Reads (λ x. x) decoder.old decoder.new result
             (name_at decoder.old.bytes decoder.old.index) }

@@ -1,9 +1,9 @@
 //! What is written of a name is read as that name.
 
 ghost use Rattle.std.specs.Prelude.{◌≡◌, ℕ, List, length, true};
-ghost use Rattle.base.specs.Laws.{IsValid, Writes};
-ghost use Rattle.base.specs.Names.{name_at};
-ghost use Rattle.base.specs.State.{State};
+ghost use Rattle.base.specs.writing.Laws.{IsValid, Writes};
+ghost use Rattle.base.specs.reading.Names.{name_at};
+ghost use Rattle.base.specs.writing.State.{State};
 ghost use Rattle.base.specs.Words.{NameAt};
 
 /// Where a name was written, with pointers or without, the same labels are read as an absolute name,

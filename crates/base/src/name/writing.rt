@@ -1,14 +1,14 @@
 //! Writes a name (RFC 1035, 4.1.4).
 
 ghost use Rattle.std.specs.Prelude.{◌≡◌, [], ◌∷◌, ◌++◌, OnOk};
-ghost use Rattle.base.specs.AppendError.{told};
-ghost use Rattle.base.specs.Labels.{AreNameLabels, plain_len, wire_of};
-ghost use Rattle.base.specs.Laws.{Keeps};
-ghost use Rattle.base.specs.SaysName.{Says-name};
-ghost use Rattle.base.specs.State.{appended};
-ghost use Rattle.base.specs.Wire.{state_of};
+ghost use Rattle.base.specs.writing.AppendError.{told};
+ghost use Rattle.base.specs.names.Labels.{AreNameLabels, plain_len, wire_of};
+ghost use Rattle.base.specs.writing.Laws.{Keeps};
+ghost use Rattle.base.specs.writing.SaysName.{Says-name};
+ghost use Rattle.base.specs.writing.State.{appended};
+ghost use Rattle.base.specs.writing.Wire.{state_of};
 ghost use Rattle.base.specs.Words.{NameAt};
-ghost use Rattle.base.specs.Written.{Exactly, name, plain_name};
+ghost use Rattle.base.specs.writing.Written.{Exactly, name, plain_name};
 
 use crate::error::ProtoError;
 use crate::name::{Name, first_label};

@@ -2,13 +2,13 @@
 //!
 //! Every character with a meaning is one of ASCII, so texts are looked at byte by byte.
 
-ghost use Rattle.std.specs.Prelude.{◌≡◌, ◌≤◌, ◌<◌, ◌+◌, ◌∷◌, true, false, length, take, drop, get_or, slice_get, IfSome, IfNone, IfOk, IsTrue, None, Some};
+ghost use Rattle.std.specs.Prelude.{◌≡◌, ◌<◌, ◌+◌, ◌∷◌, false, length, take, drop, get_or, slice_get, IfSome, IsTrue, None, Some};
 ghost use Rattle.std.specs.Option.{option_map};
 ghost use Rattle.std.specs.Str.{IsCharBoundary};
 ghost use Rattle.std.specs.String.{string_bytes};
-ghost use Rattle.base.specs.Cuts.{AnswersElement, AnswersItem, AnswersNext, AnswersSign, CutsOff};
-ghost use Rattle.base.specs.Tokens.{before, begins_blank, element, element_of, ends_item, is_blank, is_line_end, item, item_token};
-ghost use Rattle.base.specs.Tokens.{line_end, list_items, next, past_blanks, past_comment, past_line_end, past_separators, quoted, separates, texts, visible};
+ghost use Rattle.base.specs.texts.Cuts.{AnswersElement, AnswersItem, AnswersSign, CutsOff};
+ghost use Rattle.base.specs.texts.Tokens.{begins_blank, element, ends_item, is_blank, is_line_end, item};
+ghost use Rattle.base.specs.texts.Tokens.{line_end, list_items, past_blanks, past_comment, past_line_end, past_separators, quoted, separates, texts};
 
 use crate::error::ParseError;
 use crate::text::Token;
@@ -26,7 +26,7 @@ fn ends_item(c: u8) -> bool
 }
 
 /// The length in bytes of the item that a text begins with; none where the text ends with the item's backslash.
-#[tactic(auto, unfolding(crate::specs::Tokens::item))]
+#[tactic(auto, unfolding(crate::specs::texts::Tokens::item))]
 fn item_len(text: &[u8]) -> Option<usize>
     ensures value { option_map (λ n. (take n text.now, drop n text.now)) result
         ≡ item false text.now }
@@ -51,7 +51,7 @@ fn item_len(text: &[u8]) -> Option<usize>
 }
 
 /// How many bytes stand before the next `"` that no backslash escapes; none where there is no such `"`.
-#[tactic(auto, unfolding(crate::specs::Tokens::quoted))]
+#[tactic(auto, unfolding(crate::specs::texts::Tokens::quoted))]
 fn quoted_len(text: &[u8]) -> Option<usize>
     ensures value { option_map (λ n. (take n text.now, drop (n + 1) text.now)) result
         ≡ quoted false text.now }
@@ -152,7 +152,7 @@ pub(super) fn past_comment(text: &str) -> &str
 }
 
 /// Within parentheses: what is after blanks, line ends and comments.
-#[tactic(auto, using(crate::proofs::Cutting::separators_comment, crate::proofs::Cutting::comment_shorter, crate::proofs::Cutting::separators_here, crate::proofs::Cutting::separators_none))]
+#[tactic(auto, using(crate::proofs::texts::Cutting::separators_comment, crate::proofs::texts::Cutting::comment_shorter, crate::proofs::texts::Cutting::separators_here, crate::proofs::texts::Cutting::separators_none))]
 fn past_separators(text: &str) -> &str
     ensures { result.now ≡ past_separators false text.now }
 {
@@ -193,7 +193,7 @@ pub(super) fn take_quoted(alloc: Global, text: &str) -> Result<(String, &str), P
 }
 
 /// The next item or quoted text within parentheses, none where they close, and what is after it.
-#[tactic(auto, unfolding(crate::specs::Tokens::element))]
+#[tactic(auto, unfolding(crate::specs::texts::Tokens::element))]
 fn take_element(alloc: Global, text: &str) -> Result<(Option<String>, &str), ParseError>
     ensures { AnswersElement result (element (past_separators false text.now)) }
 {

@@ -1,11 +1,11 @@
 //! Laws of the tokens of zone text.
 
 ghost use Rattle.std.specs.Prelude.{ℕ, List, Some, length, false, ◌∷◌, ◌++◌, ◌≡◌, ◌↔◌};
-ghost use Rattle.base.specs.TokenList.{followed, next_symbol, symbols};
-ghost use Rattle.base.specs.TokenText.{EndsItem, IsItem, IsList, IsQuoted};
-ghost use Rattle.base.specs.Tokens.{Unread, item, list_items, quoted};
-ghost use Rattle.base.specs.Ttl.{ttl_of};
-ghost use Rattle.base.specs.TtlText.{IsTtlText};
+ghost use Rattle.base.specs.texts.TokenList.{followed, next_symbol, symbols};
+ghost use Rattle.base.specs.texts.TokenText.{EndsItem, IsItem, IsList, IsQuoted};
+ghost use Rattle.base.specs.texts.Tokens.{Unread, item, list_items, quoted};
+ghost use Rattle.base.specs.texts.Ttl.{ttl_of};
+ghost use Rattle.base.specs.texts.TtlText.{IsTtlText};
 
 /// The tokens of a text are its first and then the tokens of the rest; the fault, where it comes, is the
 /// last, and at the text's end there is none. So a text that `Lexer::next_token` reads to its end gives

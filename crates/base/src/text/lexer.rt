@@ -1,8 +1,9 @@
 //! Cuts zone text into tokens (RFC 1035, 5.1).
 
 ghost use Rattle.std.specs.Prelude.{◌≡◌, IsTrue, Some, false, is_ok, slice_get, true};
-ghost use Rattle.base.specs.Cuts.{AnswersNext, AnswersToken, Stays, TakesNone};
-ghost use Rattle.base.specs.Tokens.{is_line_end, next, visible};
+ghost use Rattle.base.specs.texts.Cuts.{AnswersNext, AnswersToken, Stays, TakesNone};
+ghost use Rattle.base.specs.texts.TokenList.{first_place, symbols};
+ghost use Rattle.base.specs.texts.Tokens.{is_line_end, next, visible};
 
 use crate::error::ParseError;
 use crate::text::Token;
@@ -24,7 +25,7 @@ pub struct Lexer<'a> {
 }
 
 impl<'a> Model for Lexer<'a> {
-    ghost use Rattle.base.specs.Tokens.{Unread};
+    ghost use Rattle.base.specs.texts.Tokens.{Unread};
 
     ghost Value = { Unread };
 
@@ -43,6 +44,28 @@ impl<'a> Lexer<'a> {
         }
     }
 
+    /// Another lexer that stands where this one does.
+    pub fn fork(&self) -> Lexer<'a>
+        ensures { result ≡ self.now }
+    {
+        Lexer {
+            alloc: self.alloc,
+            rest: self.rest,
+            at_line_start: self.at_line_start,
+        }
+    }
+
+    /// How many bytes of the text stand from the next token on, or from what can't be cut into one.
+    #[tactic(auto, using(crate::proofs::texts::TokenLemmas::first_place_is))]
+    pub fn left(&self) -> usize
+        ensures { result ≡ first_place (symbols self.now) }
+    {
+        if self.at_line_start && begins_blank(self.rest) {
+            return self.rest.len();
+        }
+        past_comment(past_blanks(self.rest)).len()
+    }
+
     /// The next token; `None` at the end of the text, and again whenever it is asked for there. No end of a line is
     /// added at the end of the text.
     ///
@@ -54,7 +77,7 @@ impl<'a> Lexer<'a> {
     /// them, an item that begins with `$` and is none of `$ORIGIN`, `$INCLUDE` and `$TTL`, and the text's end within
     /// parentheses, in quotes or after a backslash. `Memory` if memory runs out, which is never so at the end of the
     /// text, for blanks or at the end of a line.
-    #[tactic(auto, unfolding(crate::specs::Tokens::next, crate::specs::Tokens::visible))]
+    #[tactic(auto, unfolding(crate::specs::texts::Tokens::next, crate::specs::texts::Tokens::visible))]
     pub fn next_token(&mut self) -> Result<Option<Token>, ParseError>
         ensures value { AnswersNext result self.new (next self.old) }
         ensures stays { Stays result self.old self.new }
@@ -84,7 +107,7 @@ impl<'a> Lexer<'a> {
 
 /// The token that a text begins with, which begins with this byte, no blank, no comment and no line's end,
 /// and what is after it.
-#[tactic(auto, unfolding(crate::specs::Tokens::visible))]
+#[tactic(auto, unfolding(crate::specs::texts::Tokens::visible))]
 fn cut_token(alloc: Global, first: u8, text: &str) -> Result<(Token, &str), ParseError>
     requires first { slice_get text.now 0 ≡ Some first }
     requires no_line_end { is_line_end first ≡ false }

@@ -2,7 +2,7 @@
 
 ghost use Rattle.std.specs.Prelude.{◌≡◌, ◌∷◌, List, ℕ, IfNone, IfSome, None};
 ghost use Rattle.std.specs.Option.{ok_or};
-ghost use Rattle.base.specs.Ttl.{below_limit, ttl_of, ttl_sum, unit_of};
+ghost use Rattle.base.specs.texts.Ttl.{below_limit, ttl_of, ttl_sum, unit_of};
 ghost use Rattle.base.specs.declared.error.parse_error.ParseError.TheVariants as refusals;
 
 use crate::error::ParseError;
@@ -22,7 +22,7 @@ fn unit_of(c: u8) -> Option<u32>
 }
 
 /// One byte on: the sum and the number of the group begun; none where the text is no TTL text, or says too many.
-#[tactic(auto, using(crate::proofs::TtlLemmas::one_byte))]
+#[tactic(auto, using(crate::proofs::texts::TtlLemmas::one_byte))]
 fn ttl_step(sum: u32, begun: Option<u32>, c: u8) -> Option<(u32, Option<u32>)>
     ensures none { IfNone result ((rest : List ℕ)
         → below_limit (ttl_sum sum begun (c ∷ rest)) ≡ None) }
@@ -39,7 +39,7 @@ fn ttl_step(sum: u32, begun: Option<u32>, c: u8) -> Option<(u32, Option<u32>)>
 }
 
 /// The seconds that a text says; none where it is no TTL text, or says too many.
-#[tactic(auto, using(crate::proofs::TtlLemmas::ttl_fails, crate::proofs::TtlLemmas::ttl_nothing, crate::proofs::TtlLemmas::ttl_ends))]
+#[tactic(auto, using(crate::proofs::texts::TtlLemmas::ttl_fails, crate::proofs::texts::TtlLemmas::ttl_nothing, crate::proofs::texts::TtlLemmas::ttl_ends))]
 pub(crate) fn ttl_of(text: &[u8]) -> Option<u32>
     ensures { result ≡ ttl_of text.now }
 {

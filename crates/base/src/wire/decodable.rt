@@ -1,7 +1,7 @@
 //! Values that can be read.
 
 ghost use Rattle.std.specs.Int.{w16};
-ghost use Rattle.base.specs.Reading.{number_at};
+ghost use Rattle.base.specs.reading.Reading.{number_at};
 
 use crate::error::DecodeError;
 use crate::wire::decoder::BinDecoder;
@@ -12,8 +12,8 @@ use crate::wire::decoder::BinDecoder;
 /// the places of the names of the value that is read there.
 pub trait BinDecodable: Drop {
     ghost use Rattle.std.specs.Prelude.{ℕ, List, []};
-    ghost use Rattle.base.specs.Reading.{Read, Reads};
-    ghost use Rattle.base.specs.Tracks.{Tracks};
+    ghost use Rattle.base.specs.reading.Reading.{Read, Reads};
+    ghost use Rattle.base.specs.reading.Tracks.{Tracks};
 
     ghost read_at: { List ℕ → ℕ → Read Self };
 

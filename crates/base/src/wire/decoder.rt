@@ -4,11 +4,11 @@ ghost use Rattle.base.specs.declared.limits.TheConstants.{POINTER_LIMIT};
 ghost use Rattle.std.specs.Prelude.{◌≡◌, ℕ, true, false, ◌+◌, ◌-◌, ◌^◌, ◌<◌, ◌≤◌, length, min, drop, nat_le, is_some, IfSome, OnOk, OnErr, IsOkUnless, []};
 ghost use Rattle.std.specs.FinSet as set;
 ghost use Rattle.std.specs.Int.{w16, w32};
-ghost use Rattle.base.specs.Passing.{IsClosed, PassesKept};
-ghost use Rattle.base.specs.Pointers.{IsKept, IsSource, KeepsAt};
-ghost use Rattle.base.specs.Reader.{begun};
-ghost use Rattle.base.specs.Reading.{Reads, byte_at, bytes_at, number_at};
-ghost use Rattle.base.specs.Tracks.{IsCounted, Tracks};
+ghost use Rattle.base.specs.reading.Passing.{IsClosed, PassesKept};
+ghost use Rattle.base.specs.reading.Pointers.{IsKept, IsSource, KeepsAt};
+ghost use Rattle.base.specs.reading.Reader.{begun};
+ghost use Rattle.base.specs.reading.Reading.{Reads, byte_at, bytes_at, number_at};
+ghost use Rattle.base.specs.reading.Tracks.{IsCounted, Tracks};
 
 use crate::error::DecodeError;
 use crate::limits::POINTER_LIMIT;
@@ -28,9 +28,9 @@ pub struct BinDecoder<'a> {
 
 impl<'a> Model for BinDecoder<'a> {
     ghost use Rattle.std.specs.Prelude.{◌≤◌, length};
-    ghost use Rattle.base.specs.Reader.{Reader, reader_code};
-    ghost use Rattle.base.specs.Passing.{IsClosed};
-    ghost use Rattle.base.specs.Pointers.{AreKept, targets_of};
+    ghost use Rattle.base.specs.reading.Reader.{Reader, reader_code};
+    ghost use Rattle.base.specs.reading.Passing.{IsClosed};
+    ghost use Rattle.base.specs.reading.Pointers.{AreKept, targets_of};
 
     ghost Value = { Reader };
 

@@ -1,6 +1,6 @@
 //! Parts of a message that are written and counted.
 
-ghost use Rattle.base.specs.Items.{IsCountable, EmitsAll};
+ghost use Rattle.base.specs.writing.Items.{IsCountable, EmitsAll};
 
 use crate::error::ProtoError;
 use crate::wire::encodable::BinEncodable;
@@ -13,10 +13,10 @@ use crate::wire::encoder::BinEncoder;
 pub trait EmitAndCount {
     ghost use Rattle.std.specs.Prelude.{ℕ, Result};
     ghost use Rattle.base.specs.declared.error.proto_error.ProtoError.{ProtoError};
-    ghost use Rattle.base.specs.Items.{StaysValid};
-    ghost use Rattle.base.specs.Laws.{Keeps};
-    ghost use Rattle.base.specs.State.{State};
-    ghost use Rattle.base.specs.Wire.{state_of};
+    ghost use Rattle.base.specs.writing.Items.{StaysValid};
+    ghost use Rattle.base.specs.writing.Laws.{Keeps};
+    ghost use Rattle.base.specs.writing.State.{State};
+    ghost use Rattle.base.specs.writing.Wire.{state_of};
 
     ghost can_emit: { Self → Type 0 };
 

@@ -2,9 +2,9 @@
 
 ghost use Rattle.std.specs.Prelude.{◌≡◌, ◌<◌, ◌^◌, []};
 ghost use Rattle.std.specs.Int.{w16, to_be_bytes};
-ghost use Rattle.base.specs.SaysParts.{Says-number};
+ghost use Rattle.base.specs.writing.SaysParts.{Says-number};
 ghost use Rattle.base.specs.Words.{Number};
-ghost use Rattle.base.specs.Written.{just};
+ghost use Rattle.base.specs.writing.Written.{just};
 
 use crate::error::ProtoError;
 use crate::wire::encoder::BinEncoder;
@@ -21,10 +21,10 @@ use crate::wire::encoder::BinEncoder;
 /// by itself.
 pub trait BinEncodable {
     ghost use Rattle.std.specs.Prelude.{ℕ, List, [], OnOk};
-    ghost use Rattle.base.specs.Laws.{Keeps};
-    ghost use Rattle.base.specs.Says.{Says};
-    ghost use Rattle.base.specs.Wire.{state_of};
-    ghost use Rattle.base.specs.Written.{Writing, Exactly};
+    ghost use Rattle.base.specs.writing.Laws.{Keeps};
+    ghost use Rattle.base.specs.writing.Says.{Says};
+    ghost use Rattle.base.specs.writing.Wire.{state_of};
+    ghost use Rattle.base.specs.writing.Written.{Writing, Exactly};
 
     ghost word: { Self → List ℕ → ℕ → ℕ → Type 0 };
 

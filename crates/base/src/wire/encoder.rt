@@ -3,7 +3,7 @@
 ghost use Rattle.base.specs.declared.limits.TheConstants.{MAX_MESSAGE};
 ghost use Rattle.std.specs.Prelude.{◌≡◌, ◌+◌, ◌-◌, ◌^◌, ◌<◌, ◌≤◌, [], ◌∷◌, ◌++◌, length, take, drop, replicate, All, OnOk, OnErr, IfOk, IsErrOf, ◌==◌};
 ghost use Rattle.std.specs.Int.{w16, w32, to_be_bytes};
-ghost use Rattle.base.specs.State.{appended, overwritten};
+ghost use Rattle.base.specs.writing.State.{appended, overwritten};
 
 pub(crate) mod append;
 mod items;
@@ -31,7 +31,7 @@ pub struct BinEncoder<'a, T: HasSuffixes = SuffixTable> {
 }
 
 impl<'a, T: HasSuffixes + Drop> Drop for BinEncoder<'a, T> {
-    ghost use Rattle.base.specs.Wire.{vector_of};
+    ghost use Rattle.base.specs.writing.Wire.{vector_of};
 
     fn drop(self)
         ensures { self.exit.0.now ≡ vector_of self.entry }
@@ -45,9 +45,9 @@ impl<'a, T: HasSuffixes + Drop> Drop for BinEncoder<'a, T> {
 }
 
 impl<'a> BinEncoder<'a> {
-    ghost use Rattle.base.specs.Wire.{state_of, Refuses};
-    ghost use Rattle.base.specs.Laws.{Keeps};
-    ghost use Rattle.base.specs.Written.{Exactly, just};
+    ghost use Rattle.base.specs.writing.Wire.{state_of, Refuses};
+    ghost use Rattle.base.specs.writing.Laws.{Keeps};
+    ghost use Rattle.base.specs.writing.Written.{Exactly, just};
 
     /// An encoder over the emptied vector, with the limit of 65,535 bytes. Takes no memory.
     pub fn new(buffer: &'a mut Vec<u8>) -> BinEncoder<'a>

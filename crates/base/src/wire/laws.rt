@@ -2,14 +2,14 @@
 
 ghost use Rattle.std.specs.Prelude.{◌≡◌, ℕ, ◌+◌, ◌^◌, ◌<◌, ◌≤◌, List, ◌++◌, All, length, max, OnOk, Result};
 ghost use Rattle.std.specs.FinSet as set;
-ghost use Rattle.base.specs.Items.{EachWritten};
-ghost use Rattle.base.specs.Laws.{Keeps, Writes};
-ghost use Rattle.base.specs.Passing.{NamesPass};
-ghost use Rattle.base.specs.Reader.{Reader, begun};
-ghost use Rattle.base.specs.State.{State, Stored, appended, overwritten};
-ghost use Rattle.base.specs.Tracks.{IsCounted, IsPassed, Tracked};
-ghost use Rattle.base.specs.Wire.{Refuses};
-ghost use Rattle.base.specs.Written.{in_turn, piece_at, that_fit, after, fitting, Exactly, FirstPasses};
+ghost use Rattle.base.specs.writing.Items.{EachWritten};
+ghost use Rattle.base.specs.writing.Laws.{Keeps, Writes};
+ghost use Rattle.base.specs.reading.Passing.{NamesPass};
+ghost use Rattle.base.specs.reading.Reader.{Reader, begun};
+ghost use Rattle.base.specs.writing.State.{State, Stored, appended, overwritten};
+ghost use Rattle.base.specs.reading.Tracks.{IsCounted, IsPassed, Tracked};
+ghost use Rattle.base.specs.writing.Wire.{Refuses};
+ghost use Rattle.base.specs.writing.Written.{in_turn, piece_at, that_fit, after, fitting, Exactly, FirstPasses};
 ghost use Rattle.base.specs.declared.error.proto_error.ProtoError.{ProtoError};
 
 use crate::wire::encodable::BinEncodable;

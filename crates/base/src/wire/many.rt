@@ -1,8 +1,8 @@
 //! Reads values one after another.
 
-ghost use Rattle.base.specs.Many.{many_at, many_names};
-ghost use Rattle.base.specs.Reading.{Reads};
-ghost use Rattle.base.specs.Tracks.{Tracks};
+ghost use Rattle.base.specs.reading.Many.{many_at, many_names};
+ghost use Rattle.base.specs.reading.Reading.{Reads};
+ghost use Rattle.base.specs.reading.Tracks.{Tracks};
 
 use crate::error::DecodeError;
 use crate::wire::decodable::BinDecodable;

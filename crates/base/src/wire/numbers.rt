@@ -3,11 +3,11 @@
 ghost use Rattle.std.specs.Prelude.{◌<◌, ◌^◌, Ok};
 ghost use Rattle.std.specs.Int.{w16, to_be_bytes};
 ghost use Rattle.base.specs.DNSClass.{class_number, class_of};
-ghost use Rattle.base.specs.Reading.{number_at, ◌>>=◌};
+ghost use Rattle.base.specs.reading.Reading.{number_at, ◌>>=◌};
 ghost use Rattle.base.specs.RecordType.{type_number, type_of};
-ghost use Rattle.base.specs.SaysParts.{Says-number};
+ghost use Rattle.base.specs.writing.SaysParts.{Says-number};
 ghost use Rattle.base.specs.Words.{Number};
-ghost use Rattle.base.specs.Written.{just};
+ghost use Rattle.base.specs.writing.Written.{just};
 
 use crate::dns_class::DNSClass;
 use crate::error::{DecodeError, ProtoError};

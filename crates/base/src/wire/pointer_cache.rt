@@ -1,11 +1,11 @@
 //! The labels at the offsets that compression pointers led to (RFC 1035, 4.1.4).
 
 ghost use Rattle.base.specs.declared.limits.TheConstants.{MAX_LABELS};
-ghost use Rattle.std.specs.Prelude.{◌≡◌, ◌≢◌, ℕ, ◌+◌, ◌++◌, ◌∷◌, ◌<◌, ◌≤◌, None, Some, All, length, get_or, IfOk, IfSome, OnErr, OnOk};
+ghost use Rattle.std.specs.Prelude.{◌≡◌, ◌≢◌, ℕ, ◌+◌, ◌<◌, ◌≤◌, None, Some, All, length, get_or, IfSome, OnErr, OnOk};
 ghost use Rattle.std.specs.FinMap as map;
 ghost use Rattle.std.specs.Option.{option_or};
 ghost use Rattle.std.specs.Ordering.{nat_cmp};
-ghost use Rattle.base.specs.Pointers.{IsInside, IsLonger, IsSource, IsTargetThere, target_entries, target_labels, labels_from, labels_now, placed};
+ghost use Rattle.base.specs.reading.Pointers.{IsInside, IsLonger, IsSource, IsTargetThere, target_entries, target_labels, labels_from, labels_now, placed};
 
 mod copied;
 
@@ -73,7 +73,7 @@ impl<'a> Model for PointerCache<'a> {
     ghost use Rattle.std.specs.Coded.{coded_ℕ, coded_list};
     ghost use Rattle.std.specs.FinMap as map;
     ghost use Rattle.std.specs.Ordering.{nat_cmp};
-    ghost use Rattle.base.specs.Pointers.{IsInside, IsTargetThere, cache_of};
+    ghost use Rattle.base.specs.reading.Pointers.{IsInside, IsTargetThere, cache_of};
     ghost use Rattle.base.specs.declared.wire.pointer_cache.TheConstants.{ROOM};
 
     ghost Value = { map.FinMap nat_cmp (List ℕ) };

@@ -1,9 +1,9 @@
 //! Writes values after their length.
 
 ghost use Rattle.std.specs.Prelude.{◌-◌, ◌≤◌, OnOk, length, take};
-ghost use Rattle.base.specs.Laws.{Keeps};
-ghost use Rattle.base.specs.Wire.{state_of};
-ghost use Rattle.base.specs.Written.{Exactly, both, just, sized};
+ghost use Rattle.base.specs.writing.Laws.{Keeps};
+ghost use Rattle.base.specs.writing.Wire.{state_of};
+ghost use Rattle.base.specs.writing.Written.{Exactly, both, just, sized};
 
 use crate::error::ProtoError;
 use crate::wire::encodable::{BinEncodable, EncodedSize};

@@ -2,8 +2,8 @@
 
 ghost use Rattle.base.specs.declared.limits.TheConstants.{POINTER_LIMIT};
 ghost use Rattle.std.specs.Prelude.{◌≡◌, ◌<◌, ◌↔◌, IfOk, IsTrue};
-ghost use Rattle.base.specs.Labels.{IsLabelRun, wire_of, labels_of, IsWire};
-ghost use Rattle.base.specs.State.{front_number};
+ghost use Rattle.base.specs.names.Labels.{IsLabelRun, wire_of, labels_of, IsWire};
+ghost use Rattle.base.specs.writing.State.{front_number};
 
 use crate::labels::Labels;
 use std::alloc::{AllocError, Global};
@@ -37,8 +37,8 @@ pub(crate) fn front_number(wire: &[u8]) -> u32
 impl Model for Suffix {
     ghost use Rattle.base.specs.declared.limits.TheConstants.{POINTER_LIMIT};
     ghost use Rattle.std.specs.Prelude.{◌≡◌, ◌<◌};
-    ghost use Rattle.base.specs.State.{Stored, front_number};
-    ghost use Rattle.base.specs.Labels.{labels_of, IsWire};
+    ghost use Rattle.base.specs.writing.State.{Stored, front_number};
+    ghost use Rattle.base.specs.names.Labels.{labels_of, IsWire};
 
     ghost Value = { Stored };
 

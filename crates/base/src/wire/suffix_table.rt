@@ -2,10 +2,10 @@
 
 ghost use Rattle.base.specs.declared.limits.TheConstants.{MAX_LABELS, POINTER_LIMIT};
 ghost use Rattle.std.specs.Prelude.{◌≡◌, ◌≢◌, ◌<◌, ◌≤◌, ◌++◌, ◌∷◌, [], length, take, All, Any, MatchOption, OnOk, OnErr, IfSome};
-ghost use Rattle.base.specs.Labels.{labels_of, IsWire};
-ghost use Rattle.base.specs.State.{front_number};
-ghost use Rattle.base.specs.Suffixes.{index_key};
-ghost use Rattle.base.specs.Written.{found_in};
+ghost use Rattle.base.specs.names.Labels.{labels_of, IsWire};
+ghost use Rattle.base.specs.writing.State.{front_number};
+ghost use Rattle.base.specs.writing.Suffixes.{index_key};
+ghost use Rattle.base.specs.writing.Written.{found_in};
 
 use crate::wire::suffix::{Suffix, front_number};
 use std::alloc::{AllocError, Global};
@@ -15,7 +15,7 @@ use std::marker::Model;
 /// What an encoder keeps of the names that it wrote.
 pub trait HasSuffixes {
     ghost use Rattle.std.specs.Prelude.{List};
-    ghost use Rattle.base.specs.State.{Stored};
+    ghost use Rattle.base.specs.writing.State.{Stored};
 
     ghost suffixes: { Self → List Stored };
 }
@@ -53,8 +53,8 @@ pub struct SuffixTable {
 
 impl Model for SuffixTable {
     ghost use Rattle.std.specs.Prelude.{◌++◌, List};
-    ghost use Rattle.base.specs.State.{Stored};
-    ghost use Rattle.base.specs.Suffixes.{offset_in, IsTable};
+    ghost use Rattle.base.specs.writing.State.{Stored};
+    ghost use Rattle.base.specs.writing.Suffixes.{offset_in, IsTable};
 
     ghost Value = { List Stored };
 

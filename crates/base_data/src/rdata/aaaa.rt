@@ -4,8 +4,8 @@ ghost use Rattle.std.specs.Prelude.{◌≡◌, ◌+◌, ◌++◌, ◌≤◌, ℕ
 ghost use Rattle.std.specs.Net.Addr.{ipv6_octets, ipv6_segments, segments_of};
 ghost use Rattle.std.specs.Net.Text.{groups_text};
 ghost use Rattle.base.specs.Words.{Bytes};
-ghost use Rattle.base.specs.SaysParts.{Says-bytes};
-ghost use Rattle.base.specs.Written.{just};
+ghost use Rattle.base.specs.writing.SaysParts.{Says-bytes};
+ghost use Rattle.base.specs.writing.Written.{just};
 ghost use Rattle.base_data.specs.AAAA.{AreZeros, IsFirstLongest, aaaa_at, aaaa_text, aaaa_of};
 ghost use Rattle.base_data.specs.Kinds.{aaaa_in};
 ghost use Rattle.base_data.specs.declared.rdata.RData.TheVariants as kinds;

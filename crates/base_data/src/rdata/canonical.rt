@@ -2,7 +2,7 @@
 
 ghost use Rattle.std.specs.Prelude.{◌≡◌, ◌≤◌, [], ◌++◌, IfOk, length};
 ghost use Rattle.std.specs.Iterator.{YieldsFirst, item_count};
-ghost use Rattle.base.specs.Wire.{IsMemory};
+ghost use Rattle.base.specs.writing.Wire.{IsMemory};
 ghost use Rattle.base_data.specs.Kinds.{canonical_data};
 ghost use Rattle.base_data.specs.NameData.{name_octets};
 ghost use Rattle.base_data.specs.OPT.{options_wire};

@@ -3,7 +3,7 @@
 ghost use Rattle.std.specs.Prelude.{◌≡◌, get_or, map};
 ghost use Rattle.std.specs.Net.Addr.{ipv4_octets, ipv6_octets};
 ghost use Rattle.std.specs.Option.{option_copied};
-ghost use Rattle.base.specs.Ttl.{ttl_of};
+ghost use Rattle.base.specs.texts.Ttl.{ttl_of};
 ghost use Rattle.base_data.specs.Fields.{ipv4_item, ipv6_item, name_item, number_item};
 ghost use Rattle.base_data.specs.ItemFault.{GivesItems};
 ghost use Rattle.base_data.specs.declared.rdata.fields.ItemFault.TheVariants as faults;

@@ -1,9 +1,9 @@
 //! The generic form, in which zone text has types without a name and data of any type (RFC 3597, 5).
 
-ghost use Rattle.std.specs.Prelude.{map, option_map};
+ghost use Rattle.std.specs.Prelude.{map};
 ghost use Rattle.std.specs.Option.{ok_or, option_copied};
 ghost use Rattle.std.specs.String.{string_bytes};
-ghost use Rattle.base.specs.TextFaults.{Gives, bad_data, unknown_type};
+ghost use Rattle.base.specs.texts.TextFaults.{Gives, bad_data, unknown_type};
 ghost use Rattle.base_data.specs.Generic.{any_data, any_type, bytes_of_words, counted_data, numbered_type};
 ghost use Rattle.base_data.specs.ItemFault.{GivesItems};
 

@@ -3,7 +3,7 @@
 ghost use Rattle.std.specs.Prelude.{◌≡◌, ◌⊎◌, Err, IfOk, List, map};
 ghost use Rattle.std.specs.Iterator.{Drains, IsFinite};
 ghost use Rattle.std.specs.Option.{option_copied};
-ghost use Rattle.base.specs.TextFaults.{Gives};
+ghost use Rattle.base.specs.texts.TextFaults.{Gives};
 ghost use Rattle.base_data.specs.Kinds.{any_of, data_of};
 
 use crate::rdata::fields::ItemFault;
@@ -17,7 +17,7 @@ use std::convert::AsStr;
 pub(crate) trait TextData: RecordData {
     ghost use Rattle.std.specs.Prelude.{ℕ, List, Option, map};
     ghost use Rattle.std.specs.Option.{option_copied};
-    ghost use Rattle.base.specs.Labels.{NameValue};
+    ghost use Rattle.base.specs.names.Labels.{NameValue};
     ghost use Rattle.base_data.specs.ItemFault.{GivesItems};
 
     ghost of_items: { List (List ℕ) → Option NameValue → Option Self };

@@ -6,7 +6,7 @@ ghost use Rattle.std.specs.List.{join_with_byte};
 ghost use Rattle.std.specs.Cmp.{IsTotalOrder};
 ghost use Rattle.std.specs.Net.Addr.{octets_of};
 ghost use Rattle.std.specs.Net.Grammar.{IsColonHex, IsDotted};
-ghost use Rattle.base.specs.NameOrder.{same_name};
+ghost use Rattle.base.specs.names.NameOrder.{same_name};
 ghost use Rattle.base.specs.declared.record_type.RecordType.TheVariants as types;
 ghost use Rattle.base_data.specs.Kinds.{DataWord, HasTextForm, KeptData, data_of, data_text, items_of, kind_rank, shown_item, type_of_data};
 ghost use Rattle.base_data.specs.DataOrder.{data_cmp};

@@ -78,7 +78,7 @@ impl BinDecodable for MX {
     /// # Errors
     ///
     /// The first fault, `InsufficientBytes` or `BadName`; `Memory` if memory runs out.
-    #[tactic(auto, using(base::proofs::TrackLemmas::tracked_then), unfolding(crate::specs::MX::mx_at))]
+    #[tactic(auto, using(base::proofs::reading::TrackLemmas::tracked_then), unfolding(crate::specs::MX::mx_at))]
     fn read(decoder: &mut BinDecoder<'_>) -> Result<MX, DecodeError> {
         Ok(MX {
             preference: decoder.read_u16()?,
@@ -103,7 +103,7 @@ impl BinEncodable for MX {
     /// # Errors
     ///
     /// `MaxBufferSizeExceeded` where a byte would pass the limit; `Memory` if memory runs out.
-    #[tactic(auto, using(base::proofs::LawLemmas::writing))]
+    #[tactic(auto, using(base::proofs::writing::LawLemmas::writing))]
     fn emit(&self, encoder: &mut BinEncoder<'_>) -> Result<(), ProtoError> {
         encoder.emit_u16(self.preference)?;
         self.exchange.emit(encoder)

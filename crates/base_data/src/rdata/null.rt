@@ -2,10 +2,10 @@
 
 ghost use Rattle.std.specs.Prelude.{◌≡◌, Some, length, refl};
 ghost use Rattle.std.specs.Cmp.{partial_equiv_from_equiv};
-ghost use Rattle.base.specs.Reading.{Reads, bytes_at};
+ghost use Rattle.base.specs.reading.Reading.{bytes_at};
 ghost use Rattle.base.specs.Words.{Bytes};
-ghost use Rattle.base.specs.SaysParts.{Says-bytes};
-ghost use Rattle.base.specs.Written.{just};
+ghost use Rattle.base.specs.writing.SaysParts.{Says-bytes};
+ghost use Rattle.base.specs.writing.Written.{just};
 ghost use Rattle.base_data.specs.Opaque.{opaque_text, same_bytes};
 ghost use Rattle.base_data.specs.Kinds.{null_in};
 ghost use Rattle.base_data.specs.Equality.{same_bytes-equiv};

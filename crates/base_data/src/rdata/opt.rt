@@ -3,8 +3,7 @@
 ghost use Rattle.std.specs.Prelude.{◌≡◌, IsOkUnless, OnOk, OnErr, position, refl, Some, All};
 ghost use Rattle.std.specs.Cmp.{partial_equiv_from_equiv};
 ghost use Rattle.std.specs.Option.{option_copied};
-ghost use Rattle.base.specs.Reading.{Reads};
-ghost use Rattle.base.specs.Written.{in_turn};
+ghost use Rattle.base.specs.writing.Written.{in_turn};
 ghost use Rattle.base_data.specs.OPT.{FitsOption, first_option, has_code, opt_at, option_written, options_len, options_say, options_word, same_options, with_option, without_code};
 ghost use Rattle.base_data.specs.Kinds.{opt_in};
 ghost use Rattle.base_data.specs.Equality.{same_options-equiv};
@@ -173,7 +172,7 @@ impl BinEncodable for OPT {
     /// # Errors
     ///
     /// `MaxBufferSizeExceeded` where a byte would pass the limit; `Memory` if memory runs out.
-    #[tactic(auto, using(base::proofs::LawLemmas::writing))]
+    #[tactic(auto, using(base::proofs::writing::LawLemmas::writing))]
     fn emit(&self, encoder: &mut BinEncoder<'_>) -> Result<(), ProtoError> {
         for option in &self.options {
             option.emit(encoder)?;

@@ -1,8 +1,8 @@
 //! Reads data by type and length.
 
 ghost use Rattle.std.specs.Prelude.{◌≡◌, ◌<◌, [], true};
-ghost use Rattle.base.specs.Reading.{Reads, bytes_at};
-ghost use Rattle.base.specs.Tracks.{Tracks};
+ghost use Rattle.base.specs.reading.Reading.{Reads, bytes_at};
+ghost use Rattle.base.specs.reading.Tracks.{Tracks};
 ghost use Rattle.base_data.specs.Kinds.{as_any, data_places};
 ghost use Rattle.base_data.specs.InPlace.{ReadsInto, data_fault, reason_of};
 ghost use Rattle.base_data.specs.RData.{is_empty_data, rdata_at};
@@ -116,8 +116,8 @@ impl From<DecodeError> for DataError {
 /// Data whose end is told by its length alone.
 pub(crate) trait SizedData: RecordData {
     ghost use Rattle.std.specs.Prelude.{◌<◌, ℕ, List, []};
-    ghost use Rattle.base.specs.Reading.{Read, Reads};
-    ghost use Rattle.base.specs.Tracks.{Tracks};
+    ghost use Rattle.base.specs.reading.Reading.{Read, Reads};
+    ghost use Rattle.base.specs.reading.Tracks.{Tracks};
 
     ghost sized_at: { ℕ → List ℕ → ℕ → Read Self };
 

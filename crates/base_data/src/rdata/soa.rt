@@ -173,7 +173,7 @@ impl BinEncodable for SOA {
     /// # Errors
     ///
     /// `MaxBufferSizeExceeded` where a byte would pass the limit; `Memory` if memory runs out.
-    #[tactic(auto, using(base::proofs::LawLemmas::writing))]
+    #[tactic(auto, using(base::proofs::writing::LawLemmas::writing))]
     fn emit(&self, encoder: &mut BinEncoder<'_>) -> Result<(), ProtoError> {
         self.mname.emit(encoder)?;
         self.rname.emit(encoder)?;

@@ -121,7 +121,7 @@ impl BinEncodable for SRV {
     /// # Errors
     ///
     /// `MaxBufferSizeExceeded` where a byte would pass the limit; `Memory` if memory runs out.
-    #[tactic(auto, using(base::proofs::LawLemmas::writing))]
+    #[tactic(auto, using(base::proofs::writing::LawLemmas::writing))]
     fn emit(&self, encoder: &mut BinEncoder<'_>) -> Result<(), ProtoError> {
         encoder.emit_slice(&self.number_octets())?;
         self.target.emit_plain(encoder)

@@ -3,11 +3,10 @@
 ghost use Rattle.base.specs.declared.limits.TheConstants.{MAX_STRING};
 ghost use Rattle.std.specs.Prelude.{◌≡◌, ◌≢◌, ◌<◌, ◌≤◌, ◌↔◌, ℕ, List, [], ◌∷◌, ◌++◌, All, IfOk, IsOkUnless, IsTrue, OnOk, length, map, refl, Some};
 ghost use Rattle.std.specs.Cmp.{partial_equiv_from_equiv};
-ghost use Rattle.base.specs.Labels.{wire_of, labels_of};
-ghost use Rattle.base.specs.Reading.{Reads};
+ghost use Rattle.base.specs.names.Labels.{wire_of, labels_of};
 ghost use Rattle.base.specs.Words.{Bytes};
-ghost use Rattle.base.specs.SaysParts.{Says-bytes};
-ghost use Rattle.base.specs.Written.{just};
+ghost use Rattle.base.specs.writing.SaysParts.{Says-bytes};
+ghost use Rattle.base.specs.writing.Written.{just};
 ghost use Rattle.base_data.specs.TXT.{AreShort, are_strings, same_txt, txt_at, txt_of};
 ghost use Rattle.base_data.specs.Kinds.{txt_in};
 ghost use Rattle.base_data.specs.Equality.{same_txt-equiv};
@@ -37,7 +36,7 @@ pub struct TXT {
 
 impl Model for TXT {
     ghost use Rattle.std.specs.Prelude.{ℕ, List};
-    ghost use Rattle.base.specs.Labels.{labels_of};
+    ghost use Rattle.base.specs.names.Labels.{labels_of};
     ghost use Rattle.base_data.specs.TXT.{IsText};
 
     ghost Value = { List (List ℕ) };

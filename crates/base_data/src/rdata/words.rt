@@ -1,9 +1,9 @@
 //! Reading data is the word that data is written as.
 
 ghost use Rattle.std.specs.Prelude.{◌≡◌, ◌↔◌, ℕ, ◌+◌, ◌-◌, ◌<◌, All, List, [], length, Ok, Err};
-ghost use Rattle.base.specs.Laws.{Holds, Keeps, Writes};
-ghost use Rattle.base.specs.Spelling.{NamesStand};
-ghost use Rattle.base.specs.State.{State};
+ghost use Rattle.base.specs.writing.Laws.{Holds, Keeps, Writes};
+ghost use Rattle.base.specs.reading.Spelling.{NamesStand};
+ghost use Rattle.base.specs.writing.State.{State};
 ghost use Rattle.base.specs.declared.error.decode_error.DecodeError.{DecodeError};
 ghost use Rattle.base.specs.declared.error.decode_error.DecodeError.TheVariants as faults;
 ghost use Rattle.base.specs.declared.record_type.RecordType.{RecordType};

@@ -1,7 +1,7 @@
 //! The names and the sets that updates are built of, from their texts (RFC 1035, 5.1).
 
 ghost use Rattle.std.specs.Prelude.{◌≡◌, IfOk, true};
-ghost use Rattle.base.specs.NameOrder.{is_zone_of};
+ghost use Rattle.base.specs.names.NameOrder.{is_zone_of};
 ghost use Rattle.op_use.specs.SoundSet.{IsSound};
 ghost use Rattle.txt.specs.ZoneSets.{AreKeyed};
 ghost use Rattle.parsed_zone.specs.Classes.{are_sets_in};

@@ -1,7 +1,7 @@
 //! A message walked whole, by one reader that keeps what pointers lead to, so that it costs what the bytes cost.
 
 ghost use Rattle.std.specs.Prelude.{◌≡◌, ◌++◌, ◌+◌, ◌*◌, ◌<◌, ◌≤◌, ◌^◌, IfOk, MatchResult, OnOk, drop, length, neg_ℤ, pos};
-ghost use Rattle.base.specs.Reading.{Fails, Reads};
+ghost use Rattle.base.specs.reading.Reading.{Fails, Reads};
 ghost use Rattle.capi.specs.WalkWhole.{IsWalked, go_on, items_of, names_of, needed_for, octets_of, question_stop, record_stop, section_number, stop_at, walk_of};
 ghost use Rattle.capi.specs.Walk.{told};
 

@@ -1,10 +1,10 @@
 //! Writes EDNS as an OPT record (RFC 6891, 6.1.2 and 6.1.3).
 
 ghost use Rattle.std.specs.Prelude.{◌≡◌, ◌+◌, ◌*◌, ◌^◌, ◌<◌, [], ◌∷◌, ◌++◌, MatchResult, OnOk};
-ghost use Rattle.base.specs.Laws.{Keeps};
+ghost use Rattle.base.specs.writing.Laws.{Keeps};
 ghost use Rattle.base.specs.RecordType.{type_number};
-ghost use Rattle.base.specs.Wire.{state_of};
-ghost use Rattle.base.specs.Written.{Exactly};
+ghost use Rattle.base.specs.writing.Wire.{state_of};
+ghost use Rattle.base.specs.writing.Written.{Exactly};
 ghost use Rattle.rr.specs.Record.{fields_of};
 ghost use Rattle.base.specs.declared.error.proto_error.ProtoError.TheVariants as refusals;
 ghost use Rattle.op.specs.EdnsRecord.{EdnsWord, edns_record, edns_written, plain_edns};
@@ -95,7 +95,7 @@ impl<'a> BinEncodable for RaisedEdns<'a> {
 }
 
 /// Writes the OPT record of EDNS with these high bits of the response code.
-#[tactic(auto, using(base::proofs::LawLemmas::writing))]
+#[tactic(auto, using(base::proofs::writing::LawLemmas::writing))]
 fn emit_raised(edns: &Edns, rcode_high: u8, encoder: &mut BinEncoder<'_>) -> Result<(), ProtoError>
     // Whatever the answer, what stood before stays, and no byte is written past the limit.
     ensures keeps { Keeps (state_of encoder.old) (state_of encoder.new) }

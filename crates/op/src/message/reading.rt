@@ -1,16 +1,16 @@
 //! Reads messages (RFC 1035, 4.1).
 
-ghost use Rattle.std.specs.Prelude.{[], ◌≡◌, ◌⊎◌, ◌+◌, ◌≤◌, Err, IfErr, IfOk, IsOkUnless, MatchResult, Ok, OnOk, ℕ};
-ghost use Rattle.base.specs.Many.{many_at};
-ghost use Rattle.base.specs.Tracks.{Tracks};
-ghost use Rattle.base.specs.Reading.{Fails, Reads};
+ghost use Rattle.std.specs.Prelude.{◌≡◌, ◌⊎◌, ◌+◌, Err, IfErr, IfOk, MatchResult, Ok, ℕ};
+ghost use Rattle.base.specs.reading.Many.{many_at};
+ghost use Rattle.base.specs.reading.Tracks.{Tracks};
+ghost use Rattle.base.specs.reading.Reading.{Fails, Reads};
 ghost use Rattle.op.specs.Fault.{IsMessageFault, IsQueriesFault, IsSectionFault};
 ghost use Rattle.op.specs.Fits.{Fits};
 ghost use Rattle.op.specs.Message.{asking, high_code, IsMessageAt, message_at, message_value, MessageValue, rest_at};
 ghost use Rattle.op.specs.Places.{message_places, queries_places, records_places};
 ghost use Rattle.op.specs.Query.{query_at};
 ghost use Rattle.op.specs.ReadsOrDecodes.{ReadsOrDecodes};
-ghost use Rattle.op.specs.Section.{empty_section, fault_in_section, is_additional_type, is_opt, options_in, read_section_value, section_at, section_value, section_with};
+ghost use Rattle.op.specs.Section.{read_section_value, section_at};
 
 mod section;
 

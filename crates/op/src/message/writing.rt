@@ -3,8 +3,8 @@
 ghost use Rattle.base.specs.declared.limits.TheConstants.{MAX_MESSAGE};
 ghost use Rattle.std.specs.Option.{option_copied};
 ghost use Rattle.std.specs.Prelude.{◌≡◌, ◌⊎◌, [], ◌<◌, ◌^◌, drop, Err, IfErr, IfOk, length, Ok, ⊤};
-ghost use Rattle.base.specs.Laws.{Keeps};
-ghost use Rattle.base.specs.Wire.{state_of};
+ghost use Rattle.base.specs.writing.Laws.{Keeps};
+ghost use Rattle.base.specs.writing.Wire.{state_of};
 ghost use Rattle.op.specs.Composition.{AddsCounts, AndThen, Composition, CountsItems, EmitsPart, HasHeader, Narrows, Tests, WritesItems, WritesRecordItems};
 ghost use Rattle.op.specs.Cut.{IsWritten};
 ghost use Rattle.op.specs.Fits.{Fits, as_list, opt_records, signature_records};

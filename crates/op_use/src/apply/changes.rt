@@ -3,11 +3,10 @@
 ghost use Rattle.base.specs.RrKey.{key_cmp};
 ghost use Rattle.base.specs.declared.rr_key.RrKey.{RrKey as Key};
 ghost use Rattle.op_use.specs.Applying.{IsZoneMap};
-ghost use Rattle.op_use.specs.HeldZone.{HeldZone};
 ghost use Rattle.op_use.specs.MapUpdates.{has_key};
 ghost use Rattle.op_use.specs.Outcome.{IsOutcome, NamesKeys, Settles, UpdatesTo};
 ghost use Rattle.std.specs.BTreeMap.{get};
-ghost use Rattle.std.specs.Prelude.{IfOk, IsTrue, None, OnOk, Some, cond, is_some, not, true, ◌&&◌, ◌↔◌, ◌≡◌};
+ghost use Rattle.std.specs.Prelude.{IfOk, IsTrue, None, OnOk, Some, cond, is_some, true, ◌↔◌, ◌≡◌};
 
 use crate::apply::changing_zone::ChangingZone;
 use crate::apply::current_set::CurrentSet;
@@ -96,7 +95,7 @@ fn gone(
     now: &BTreeMap<RrKey, CurrentSet<'_>>,
 ) -> Result<BTreeMap<RrKey, Option<RecordSet>>, AllocError>
     ensures { IfOk result (λ m. (q : Key) → get key_cmp m q
-        ≡ cond (has_key q keys.now && not (is_some (get key_cmp now.now q))) (Some None) None) }
+        ≡ cond (has_key q keys.now) (cond (is_some (get key_cmp now.now q)) None (Some None)) None) }
 {
     let mut gone = BTreeMap::new(alloc);
     for key in keys {

@@ -2,7 +2,7 @@
 
 ghost use Rattle.op_use.specs.Applying.{IsZoneMap, records_at};
 ghost use Rattle.op_use.specs.HeldZone.{HeldZone};
-ghost use Rattle.op_use.specs.MapUpdates.{HoldsAt, Lacks, Opens};
+ghost use Rattle.op_use.specs.MapUpdates.{HoldsAt, Opens};
 ghost use Rattle.rr.specs.Record.{record_key};
 ghost use Rattle.rr.specs.SetChanges.{joined};
 ghost use Rattle.rr.specs.SetUpdates.{without};
@@ -104,7 +104,7 @@ impl<'a> ChangingZone<'a> {
 
     /// Takes the set under a key out.
     pub(super) fn remove(&mut self, key: &RrKey)
-        ensures { Lacks key.now self.old self.new }
+        ensures { HoldsAt key.now [] self.old self.new }
     {
         self.sets.remove(key);
     }

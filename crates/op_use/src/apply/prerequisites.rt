@@ -2,7 +2,7 @@
 
 ghost use Rattle.base_data.specs.SameData.{same_data};
 ghost use Rattle.base_data.specs.declared.rdata.RData.{RData};
-ghost use Rattle.op_use.specs.HeldZone.{HeldZone, zone_held};
+ghost use Rattle.op_use.specs.HeldZone.{zone_held};
 ghost use Rattle.op_use.specs.MapFaults.{AreComplete, asks_for, complete_at, is_by_value, there_under};
 ghost use Rattle.op_use.specs.Server.{collected, is_found as is_found_in, is_met, is_same_key, prerequisite_fault, prerequisites_fault};
 ghost use Rattle.rr.specs.Record.{record_key};

@@ -1,6 +1,6 @@
 //! The fourth step: a look at the updates before the first is carried out (RFC 2136, 3.4.1).
 
-ghost use Rattle.op_use.specs.HeldZone.{HeldZone, zone_held};
+ghost use Rattle.op_use.specs.HeldZone.{zone_held};
 ghost use Rattle.op_use.specs.Server.{first_fault, prescan_fault};
 ghost use Rattle.std.specs.Prelude.{◌≡◌};
 

@@ -1,6 +1,6 @@
 //! What classes and types ask of an update (RFC 2136, 2.4, 2.5 and 3.4.2).
 
-ghost use Rattle.base.specs.NameOrder.{same_name};
+ghost use Rattle.base.specs.names.NameOrder.{same_name};
 ghost use Rattle.op_use.specs.MapUpdates.{use_value};
 ghost use Rattle.op_use.specs.Server.{is_meta as is_meta_type, use_of as the_use};
 ghost use Rattle.op_use.specs.SoundSet.{is_ordinary as is_ordinary_type};

@@ -1,6 +1,6 @@
 //! The last step: the updates of a message, one after the other (RFC 2136, 3.4.2).
 
-ghost use Rattle.op_use.specs.HeldZone.{HeldZone, zone_held};
+ghost use Rattle.op_use.specs.HeldZone.{zone_held};
 ghost use Rattle.op_use.specs.MapUpdates.{IsUpdated};
 ghost use Rattle.op_use.specs.Server.{OfAny, OfZone, is_needed as is_needed_in, use_of as the_use};
 ghost use Rattle.std.specs.Prelude.{IfOk, OnOk, [], ◌∷◌, ◌≡◌};

@@ -1,6 +1,6 @@
 //! The second step: the zone section of an update (RFC 2136, 3.1).
 
-ghost use Rattle.op_use.specs.HeldZone.{HeldZone, zone_held};
+ghost use Rattle.op_use.specs.HeldZone.{zone_held};
 ghost use Rattle.op_use.specs.Server.{zone_fault};
 ghost use Rattle.std.specs.Prelude.{◌≡◌};
 

@@ -1,7 +1,7 @@
 //! Builders of updates, and of the question for a transfer (RFC 2136, 2; RFC 1995; RFC 5936).
 
 ghost use Rattle.std.specs.Prelude.{◌≡◌, IfOk, IsOkUnless, map, true};
-ghost use Rattle.base.specs.NameOrder.{is_zone_of};
+ghost use Rattle.base.specs.names.NameOrder.{is_zone_of};
 ghost use Rattle.base.specs.declared.dns_class.DNSClass.TheVariants as classes;
 ghost use Rattle.base_data.specs.Kinds.{type_of_data};
 ghost use Rattle.op.specs.Edns.{new_edns};

@@ -1,6 +1,6 @@
 //! What is true of all records, and whether the wire carries one.
 
-ghost use Rattle.std.specs.Prelude.{◌≡◌, ◌<◌, ◌↔◌, [], IsTrue, false};
+ghost use Rattle.std.specs.Prelude.{◌≡◌, ◌<◌, ◌↔◌, IsTrue, false};
 ghost use Rattle.base.specs.DNSClass.{class_number, class_of, opt_class};
 ghost use Rattle.rr.specs.Record.{FitsRecord};
 ghost use Rattle.rr.specs.RecordSays.{KeptRecord};

@@ -2,8 +2,8 @@
 
 ghost use Rattle.std.specs.Prelude.{◌≡◌, ◌+◌, ◌↔◌, ℕ, List, Ok, Err, IsTrue};
 ghost use Rattle.std.specs.Cmp.{IsEquivalence, IsTotalOrder};
-ghost use Rattle.base.specs.NameOrder.{same_name};
-ghost use Rattle.base.specs.Spelling.{NamesStand};
+ghost use Rattle.base.specs.names.NameOrder.{same_name};
+ghost use Rattle.base.specs.reading.Spelling.{NamesStand};
 ghost use Rattle.base.specs.declared.error.decode_error.DecodeError.{DecodeError};
 ghost use Rattle.base_data.specs.Kinds.{KeptData, type_of_data};
 ghost use Rattle.base_data.specs.declared.rdata.RData.{RData};

@@ -2,9 +2,9 @@
 
 ghost use Rattle.std.specs.Prelude.{◌≡◌, ◌+◌, ◌<◌, length, IfErr, IfOk, Ok, OnOk, [], true};
 ghost use Rattle.std.specs.Int.{w16, w32};
-ghost use Rattle.base.specs.Names.{name_at};
-ghost use Rattle.base.specs.Reading.{Reads};
-ghost use Rattle.base.specs.Tracks.{Tracks};
+ghost use Rattle.base.specs.reading.Names.{name_at};
+ghost use Rattle.base.specs.reading.Reading.{Reads};
+ghost use Rattle.base.specs.reading.Tracks.{Tracks};
 ghost use Rattle.base.specs.Words.{IsNumberAt};
 ghost use Rattle.base_data.specs.Kinds.{data_places, type_of_data};
 ghost use Rattle.base_data.specs.RData.{is_empty_data};

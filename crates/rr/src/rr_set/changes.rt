@@ -1,6 +1,6 @@
 //! What goes into a set and what comes out (RFC 2136, 1.1.5, 3.4.2.2 and 3.4.2.4), and the order of serials (RFC 1982).
 
-ghost use Rattle.base.specs.Wire.{IsMemory};
+ghost use Rattle.base.specs.writing.Wire.{IsMemory};
 ghost use Rattle.rr.specs.DataIndex.{IsFirstAt};
 ghost use Rattle.rr.specs.SerialOrder.{is_greater};
 ghost use Rattle.rr.specs.SetChanges.{MayAdd, MayEnter, MayLeave, add_data, first_of, has_data_of, holds_one, insert, is_kept, joined, put_in_set, remove, stays};

@@ -1,9 +1,10 @@
 //! What is in force between the entries of a text, and what an entry makes of it.
 
-ghost use Rattle.base.specs.TextFaults.{Gives};
-ghost use Rattle.base.specs.Tokens.{texts};
+ghost use Rattle.base.specs.texts.TextFaults.{Gives, says};
+ghost use Rattle.base.specs.texts.Tokens.{texts};
 ghost use Rattle.base_data.specs.declared.rdata.RData.{RData};
-ghost use Rattle.std.specs.Prelude.{IfOk, Ok, OnOk, false, map, ◌≡◌};
+ghost use Rattle.std.specs.Option.{ok_or};
+ghost use Rattle.std.specs.Prelude.{IfOk, Ok, OnOk, codes, false, map, ◌≡◌};
 ghost use Rattle.std.specs.String.{string_bytes};
 ghost use Rattle.txt.specs.Cutting.{body_value, entry_value, owner_value, settings_value, stop_value};
 ghost use Rattle.txt.specs.Zone.{ZoneState, absolute, answered, apply, beginning, carried, data_in, owned, record_of, recorded, settled, spent, state_with, stopped, type_in};
@@ -233,19 +234,12 @@ impl Context {
         }
     }
 
-    /// The origin and the sets of records.
-    ///
-    /// # Errors
-    ///
-    /// `Message` where there is no origin.
-    pub(super) fn answer(self) -> Result<(Name, ZoneSets), ParseError>
-        ensures { Gives (λ r. r) result (answered self) }
+    /// The origin and the sets of records; `None` where there is no origin.
+    pub(super) fn answer(self) -> Option<(Name, ZoneSets)>
+        ensures { answered self ≡ ok_or result (says (codes "$ORIGIN was not specified")) }
     {
         let Context { origin, sets, .. } = self;
-        let Some(origin) = origin else {
-            return Err(ParseError::Message("$ORIGIN was not specified"));
-        };
-        Ok((origin, sets))
+        Some((origin?, sets))
     }
 
     /// The origin, copied.

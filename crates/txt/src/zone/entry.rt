@@ -1,8 +1,8 @@
 //! The entries of zone text, which are cut off it one after the other (RFC 1035, 5.1).
 
-ghost use Rattle.base.specs.TextFaults.{fault_of};
-ghost use Rattle.base.specs.TokenList.{symbols};
-ghost use Rattle.base.specs.Tokens.{texts};
+ghost use Rattle.base.specs.texts.TextFaults.{fault_of};
+ghost use Rattle.base.specs.texts.TokenList.{symbols};
+ghost use Rattle.base.specs.texts.Tokens.{texts};
 ghost use Rattle.std.specs.Prelude.{IfErr, IfOk, None, Some, [], ◌≡◌};
 ghost use Rattle.std.specs.Str.{str_to_ascii_uppercase};
 ghost use Rattle.std.specs.String.{string_bytes};
@@ -55,7 +55,7 @@ pub(super) enum Owner {
 
 /// What an item states before the type.
 #[derive(Drop)]
-enum Setting {
+pub(super) enum Setting {
     /// The TTL of the next record, in seconds.
     Ttl(u32),
     /// The class of the records from here on.
@@ -156,7 +156,7 @@ pub(super) fn next_entry(alloc: Global, lexer: &mut Lexer<'_>) -> Result<Option<
 /// # Errors
 ///
 /// If memory runs out.
-fn next_symbol(lexer: &mut Lexer<'_>) -> Result<Option<Symbol>, AllocError>
+pub(super) fn next_symbol(lexer: &mut Lexer<'_>) -> Result<Option<Symbol>, AllocError>
     ensures { IfOk result (λ met. ReadsSymbol met (symbols lexer.old) (symbols lexer.new)) }
 {
     match lexer.next_token() {
@@ -252,7 +252,7 @@ fn cut_settings(alloc: Global, lexer: &mut Lexer<'_>) -> Result<(Settings, Body)
 /// What an item states before the type: a TTL, else a class, in upper or lower case. Where it is neither, the item
 /// comes back in upper case.
 #[tactic(auto, unfolding(crate::specs::Entries::setting_of))]
-fn setting_of(word: String) -> Result<Setting, String>
+pub(super) fn setting_of(word: String) -> Result<Setting, String>
     ensures setting { IfOk result (λ setting. setting_of (string_bytes word)
         ≡ Some (setting_value setting)) }
     ensures none { IfErr result (λ _. setting_of (string_bytes word) ≡ None) }

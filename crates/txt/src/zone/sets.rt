@@ -7,7 +7,7 @@ ghost use Rattle.std.specs.List.{AllByRecursion};
 ghost use Rattle.std.specs.List.Sorted.{IsStrictlySortedBy};
 ghost use Rattle.std.specs.Map.{keys_of, lookup};
 ghost use Rattle.base.specs.RrKey.{key_cmp};
-ghost use Rattle.base.specs.TextFaults.{FailsWith, Gives};
+ghost use Rattle.base.specs.texts.TextFaults.{FailsWith, Gives};
 ghost use Rattle.txt.specs.Gathered.{ComesAfter, HasLastKey, HaveOwnKeys, IsAscending, KnowsSoas, gathered, with_keyed};
 ghost use Rattle.txt.specs.Run.{sets_in};
 ghost use Rattle.txt.specs.ZoneSets.{AreKeyed, sets_with, soa_again};

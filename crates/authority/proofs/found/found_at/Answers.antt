@@ -2,7 +2,7 @@ use Rattle.authority.proofs.SetLemmas.{all_records, no_records, records_there}
 use Rattle.authority.proofs.found.found_at.Goals as goal
 use Rattle.authority.specs.Found.{IsAlias}
 use Rattle.authority.specs.Lookup.{Data, alias_at, alias_else, asked}
-use Rattle.base.specs.Labels.{NameValue}
+use Rattle.base.specs.names.Labels.{NameValue}
 use Rattle.base.specs.RrKey.{key_cmp}
 use Rattle.base_data.specs.declared.rdata.RData.{RData}
 use Rattle.op_use.proofs.TypeSteps.{any_is}

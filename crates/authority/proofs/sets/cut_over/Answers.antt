@@ -2,7 +2,7 @@ use Rattle.authority.proofs.WayLemmas.{cut_beside, ds_is}
 use Rattle.authority.proofs.sets.cut_over.Goals as goal
 use Rattle.authority.specs.Found.{IsCutSet}
 use Rattle.authority.specs.Lookup.{cut_over, has_servers, way}
-use Rattle.base.specs.Labels.{NameValue}
+use Rattle.base.specs.names.Labels.{NameValue}
 use Rattle.base.specs.declared.dns_class.DNSClass.{DNSClass}
 use Rattle.op_use.specs.Applying.{zone_of_map}
 use Rattle.std.proofs.Common.{Option, false, subst, sym, true, ◌∙◌}

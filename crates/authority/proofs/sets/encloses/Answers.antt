@@ -2,7 +2,7 @@ use Rattle.authority.proofs.SourceLemmas.{encloses_by}
 use Rattle.authority.proofs.sets.encloses.Goals as goal
 use Rattle.authority.proofs.sets.encloses.Goals.{else-exists, then-exists}
 use Rattle.authority.specs.Lookup.{encloses}
-use Rattle.base.specs.NameOrder.{same_name}
+use Rattle.base.specs.names.NameOrder.{same_name}
 use Rattle.op_use.specs.Applying.{zone_of_map}
 use Rattle.std.proofs.Common.{ap, refl, sym, ◌||◌, ◌∙◌, ◌≡◌}
 

@@ -1,6 +1,6 @@
 use Rattle.authority.proofs.FirstKey.{first_covered, first_from, in_lower}
 use Rattle.authority.proofs.sets.exists.Goals as goal
-use Rattle.base.specs.Parents.{is_within}
+use Rattle.base.specs.names.Parents.{is_within}
 use Rattle.std.proofs.Common.{ap, sym, ◌∙◌}
 
 pub returns-in-Some-clause-value : goal.returns-in-Some-clause-value

@@ -1,7 +1,7 @@
 use Rattle.authority.proofs.WayLemmas.{IsOnWay, copied_or, way_ends, way_goes_on}
 use Rattle.authority.proofs.sets.highest_cut.Goals as goal
-use Rattle.base.specs.Labels.{NameValue}
-use Rattle.base.specs.Parents.{parent}
+use Rattle.base.specs.names.Labels.{NameValue}
+use Rattle.base.specs.names.Parents.{parent}
 use Rattle.base.specs.RrKey.{key_cmp}
 use Rattle.rr.specs.RecordSet.{SetValue}
 use Rattle.std.proofs.Common.{ap, subst, sym, ◌∙◌}

@@ -1,6 +1,6 @@
 use Rattle.authority.proofs.SetLemmas.{set_here, sets_begin}
 use Rattle.authority.proofs.sets.sets_of.Goals as goal
-use Rattle.base.specs.NameOrder.{same_lower}
+use Rattle.base.specs.names.NameOrder.{same_lower}
 use Rattle.std.proofs.Common.{[], ap, rules, sym, ◌++◌, ◌∙◌, ◌∷◌, ◌≡◌}
 use Rattle.std.proofs.lemmas.Bool.{not-false}
 

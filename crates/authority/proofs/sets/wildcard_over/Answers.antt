@@ -1,8 +1,8 @@
 use Rattle.authority.proofs.SourceLemmas.{IsOver, over_ends, over_goes_on}
 use Rattle.authority.proofs.sets.wildcard_over.Goals as goal
 use Rattle.authority.specs.Lookup.{encloser, encloses, wildcard_below}
-use Rattle.base.specs.Labels.{NameValue}
-use Rattle.base.specs.Parents.{parent, wildcard_of}
+use Rattle.base.specs.names.Labels.{NameValue}
+use Rattle.base.specs.names.Parents.{parent, wildcard_of}
 use Rattle.base.specs.declared.dns_class.DNSClass.{DNSClass}
 use Rattle.op_use.specs.Applying.{zone_of_map}
 use Rattle.std.proofs.Common.{ap, false, subst, sym, true, ◌∙◌, ◌≡◌}

@@ -1,4 +1,4 @@
-use Rattle.base.proofs.ClassTexts.{class_text-read}
+use Rattle.base.proofs.texts.ClassTexts.{class_text-read}
 use Rattle.base.proofs.dns_class.class_text_round_trip.Goals as goal
 
 pub returns-clause-read : goal.returns-clause-read

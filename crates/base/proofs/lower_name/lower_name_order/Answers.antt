@@ -1,4 +1,4 @@
-use Rattle.base.specs.NameOrderLaws.{lower_cmp-exact, same_lower-exact}
+use Rattle.base.specs.names.NameOrderLaws.{lower_cmp-exact, same_lower-exact}
 use Rattle.base.proofs.lower_name.lower_name_order.Goals as goal
 
 pub returns-clause-exact : goal.returns-clause-exact

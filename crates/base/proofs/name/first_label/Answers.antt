@@ -2,8 +2,8 @@ use Rattle.std.proofs.Common.{rules, ◌≡◌, ℕ, ◌+◌, ◌<◌, ◌≤◌
 use Rattle.std.proofs.lemmas.Bool.Decides.{nat_tests}
 use Rattle.std.proofs.lemmas.List.{nil_from_length, take_rest}
 use Rattle.std.specs.List.{slice_range}
-use Rattle.base.specs.Labels.{labels_of}
-use Rattle.base.proofs.LabelLemmas.{is_first, labels_of-nil}
+use Rattle.base.specs.names.Labels.{labels_of}
+use Rattle.base.proofs.names.LabelLemmas.{is_first, labels_of-nil}
 use Rattle.base.proofs.name.first_label.Goals as goal
 
 pub returns-then-is_empty : goal.returns-then-is_empty
@@ -28,7 +28,8 @@ returns c =
     let rest = take_rest wire end in
     record {
       labels = first.labels ∙ ap (λ (w : List ℕ). slice_range wire 1 end ∷ labels_of w) (sym rest);
-      bytes = first.parts ∙ ap (λ (w : List ℕ). (length (slice_range wire 1 end) ∷ slice_range wire 1 end) ++ w) (sym rest);
+      bytes = first.parts ∙ ap (λ (w : List ℕ). (length (slice_range wire 1 end) ∷ slice_range wire 1 end) ++ w)
+          (sym rest);
       others = rw rest first.whole;
       shorter = rw rest (omega (arith, length-drop end wire));
     }

@@ -1,4 +1,4 @@
-use Rattle.base.proofs.TypeTexts.{type_text-read, is_named-read}
+use Rattle.base.proofs.texts.TypeTexts.{type_text-read, is_named-read}
 use Rattle.base.proofs.record_type.type_text_round_trip.Goals as goal
 
 pub returns-clause-read : goal.returns-clause-read

@@ -2,7 +2,7 @@ use Rattle.std.proofs.Common.{◌∙◌, sym}
 use Rattle.std.specs.Cmp.{Equal-is}
 use Rattle.base.specs.RrKey.{key_cmp}
 use Rattle.base.specs.contracts.rr_key.RrKeyOrd.TheImpl.Laws.{matches_eq-law}
-use Rattle.base.proofs.KeyLemmas.{key_cmp-exact, key_cmp-total}
+use Rattle.base.proofs.names.KeyLemmas.{key_cmp-exact, key_cmp-total}
 use Rattle.base.proofs.rr_key.rr_key_order.Goals as goal
 
 pub returns-clause-total : goal.returns-clause-total

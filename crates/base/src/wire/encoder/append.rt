@@ -1,10 +1,10 @@
 //! Appends bytes.
 
 ghost use Rattle.std.specs.Prelude.{◌≡◌, ◌+◌, ◌^◌, ◌<◌, Err, length, OnErr};
-ghost use Rattle.base.specs.AppendError.{refusal, told};
-ghost use Rattle.base.specs.Laws.{Keeps};
-ghost use Rattle.base.specs.Wire.{state_of};
-ghost use Rattle.base.specs.Written.{Exactly, just};
+ghost use Rattle.base.specs.writing.AppendError.{refusal, told};
+ghost use Rattle.base.specs.writing.Laws.{Keeps};
+ghost use Rattle.base.specs.writing.Wire.{state_of};
+ghost use Rattle.base.specs.writing.Written.{Exactly, just};
 ghost use Rattle.base.specs.declared.wire.encoder.append.AppendError.TheVariants as reasons;
 
 use crate::error::ProtoError;

@@ -1,8 +1,8 @@
 //! Writes items one after another.
 
-ghost use Rattle.base.specs.Items.{IsCountable, EmitsAll, StaysValid};
-ghost use Rattle.base.specs.Laws.{Keeps};
-ghost use Rattle.base.specs.Wire.{state_of};
+ghost use Rattle.base.specs.writing.Items.{IsCountable, EmitsAll, StaysValid};
+ghost use Rattle.base.specs.writing.Laws.{Keeps};
+ghost use Rattle.base.specs.writing.Wire.{state_of};
 ghost use Rattle.std.specs.Iterator.{UpTo};
 ghost use Rattle.std.specs.Prelude.{Some, ◌<◌, ◌^◌, ◌-◌};
 

@@ -1,8 +1,8 @@
 //! Going back to an earlier state of an encoder.
 
 ghost use Rattle.std.specs.Prelude.{◌≡◌, ◌<◌, length, take, All};
-ghost use Rattle.base.specs.State.{cut};
-ghost use Rattle.base.specs.Wire.{state_of};
+ghost use Rattle.base.specs.writing.State.{cut};
+ghost use Rattle.base.specs.writing.Wire.{state_of};
 
 use crate::wire::encoder::BinEncoder;
 

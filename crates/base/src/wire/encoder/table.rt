@@ -2,10 +2,10 @@
 
 ghost use Rattle.base.specs.declared.limits.TheConstants.{POINTER_LIMIT};
 ghost use Rattle.std.specs.Prelude.{◌≡◌, ◌<◌, ◌≢◌, length, All, Any, MatchOption, OnOk, OnErr, IfSome};
-ghost use Rattle.base.specs.Labels.{labels_of, IsWire};
-ghost use Rattle.base.specs.State.{stored};
-ghost use Rattle.base.specs.Wire.{state_of};
-ghost use Rattle.base.specs.Written.{found_in};
+ghost use Rattle.base.specs.names.Labels.{labels_of, IsWire};
+ghost use Rattle.base.specs.writing.State.{stored};
+ghost use Rattle.base.specs.writing.Wire.{state_of};
+ghost use Rattle.base.specs.writing.Written.{found_in};
 
 use crate::limits::POINTER_LIMIT;
 use crate::wire::encoder::BinEncoder;

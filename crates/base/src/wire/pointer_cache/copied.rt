@@ -24,7 +24,7 @@ pub(super) struct CopiedLabels {
 impl Model for CopiedLabels {
     ghost use Rattle.std.specs.Prelude.{◌≤◌, ℕ, List};
     ghost use Rattle.std.specs.Coded.{coded_ℕ, coded_list};
-    ghost use Rattle.base.specs.Pointers.{copied_bytes};
+    ghost use Rattle.base.specs.reading.Pointers.{copied_bytes};
     ghost use Rattle.base.specs.declared.wire.pointer_cache.copied.TheConstants.{ROOM};
 
     ghost Value = { List ℕ };

@@ -96,7 +96,7 @@ impl BinEncodable for EdnsOption {
     /// # Errors
     ///
     /// `MaxBufferSizeExceeded` where a byte would pass the limit; `Memory` if memory runs out.
-    #[tactic(auto, using(base::proofs::LawLemmas::writing))]
+    #[tactic(auto, using(base::proofs::writing::LawLemmas::writing))]
     fn emit(&self, encoder: &mut BinEncoder<'_>) -> Result<(), ProtoError> {
         let bytes = self.bytes();
         let mut front = [0; 4];
@@ -116,7 +116,7 @@ impl BinDecodable for EdnsOption {
     /// # Errors
     ///
     /// `InsufficientBytes` where the buffer ends before; `Memory` if memory runs out.
-    #[tactic(auto, using(base::proofs::TrackLemmas::tracked_then))]
+    #[tactic(auto, using(base::proofs::reading::TrackLemmas::tracked_then))]
     fn read(decoder: &mut BinDecoder<'_>) -> Result<EdnsOption, DecodeError> {
         let code = decoder.read_u16()?;
         let len = decoder.read_u16()?;

@@ -2,7 +2,7 @@
 
 ghost use Rattle.std.specs.Prelude.{◌≡◌, ◌<◌, [], ◌∷◌, ◌++◌, IfSome, MatchOption, length};
 ghost use Rattle.std.specs.Iterator.{YieldsFirstBy, item_count};
-ghost use Rattle.base.specs.Labels.{wire_of, labels_of};
+ghost use Rattle.base.specs.names.Labels.{wire_of, labels_of};
 
 use std::marker::Model;
 
@@ -14,7 +14,7 @@ pub struct Strings<'a> {
 
 impl<'a> Model for Strings<'a> {
     ghost use Rattle.std.specs.Prelude.{◌≡◌, ℕ, List};
-    ghost use Rattle.base.specs.Labels.{wire_of, labels_of};
+    ghost use Rattle.base.specs.names.Labels.{wire_of, labels_of};
 
     ghost Value = { List (List ℕ) };
 

@@ -8,7 +8,12 @@ use Rattle.capi.proofs.fits.records_fit.Goals as goal
 pub loop-entry-preserved : goal.loop-entry-preserved
 loop-entry-preserved c =
     let fits : FitsRecord c.entry-item.result = c.fits_wire.ensures.0 (search rules) in
-    All-more FitsRecord c.args.records.now c.loop-entry.entry-index c.entry-item.result c.loop-entry-test.true c.loop-entry.invariant (subst FitsRecord c.entry-item.is fits)
+    All-more FitsRecord c.args.records.now c.loop-entry.entry-index c.entry-item.result c.loop-entry-test.true
+    c.loop-entry.invariant (subst FitsRecord c.entry-item.is fits)
 
 pub returns : goal.returns
-returns c = (λ _. subst (All FitsRecord) (take_all c.loop-entry.entry-index c.args.records.now c.loop-entry-test.false) c.loop-entry.invariant, λ _. search rules)
+returns c = (
+  λ _. subst (All FitsRecord) (take_all c.loop-entry.entry-index c.args.records.now c.loop-entry-test.false)
+      c.loop-entry.invariant,
+  λ _. search rules,
+)

@@ -1,5 +1,5 @@
 use Rattle.std.proofs.Common.{ap}
-use Rattle.op.proofs.MessageStands.{message_again}
+use Rattle.op.proofs.reading.MessageStands.{message_again}
 use Rattle.op.specs.Message.{message_value}
 use Rattle.capi.specs.Answer.{read}
 use Rattle.capi.proofs.message.message_of.Goals as goal

@@ -9,4 +9,5 @@ use Rattle.capi.proofs.message.text.Goals as goal
 pub returns : goal.returns
 returns c =
     ap (λ (asked : Asked MessageValue). asked >>= λ m. Ok (message_text m)) c.in_ok-message.ensures
-    ∙ ap Ok (sym c.in_ok-to_string.ensures.ok) ∙ ap (λ (text : Vec ℕ Global). Ok text.items) (sym c.into_bytes.ensures.value)
+    ∙ ap Ok (sym c.in_ok-to_string.ensures.ok)
+    ∙ ap (λ (text : Vec ℕ Global). Ok text.items) (sym c.into_bytes.ensures.value)

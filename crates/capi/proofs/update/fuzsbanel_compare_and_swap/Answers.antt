@@ -7,7 +7,9 @@ use Rattle.capi.proofs.update.fuzsbanel_compare_and_swap.Goals as goal
 pub returns : goal.returns
 returns c =
     let change = changes.CompareAndSwap c.args.current c.args.next in
-    let answered : IsUpdateAnswered c.args.id c.args.use_edns c.args.origin.now change c.args.out.now c.give.new.out c.give.new.needed c.give.result =
-    update_answered c.args.id c.args.use_edns c.args.origin.now change c.update.result c.args.out.now c.give.new.out c.give.new.needed c.give.result
+    let answered : IsUpdateAnswered c.args.id c.args.use_edns c.args.origin.now change c.args.out.now c.give.new.out
+    c.give.new.needed c.give.result =
+    update_answered c.args.id c.args.use_edns c.args.origin.now change c.update.result c.args.out.now c.give.new.out
+    c.give.new.needed c.give.result
     c.update.ensures.sent c.update.ensures.update c.give.ensures in
     search rules

@@ -8,5 +8,6 @@ pub returns : goal.returns
 returns c =
     let Comes = IsSent (transfer_asked c.args.id c.args.origin.now c.args.last_soa.now) in
     let answered : IsAnsweredBy Comes c.args.out.now c.give.new.out c.give.new.needed c.give.result =
-    answered_by Comes c.transfer.result c.args.out.now c.give.new.out c.give.new.needed c.give.result c.transfer.ensures c.give.ensures in
+    answered_by Comes c.transfer.result c.args.out.now c.give.new.out c.give.new.needed c.give.result c.transfer.ensures
+    c.give.ensures in
     search rules

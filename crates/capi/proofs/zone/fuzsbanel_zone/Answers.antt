@@ -8,5 +8,6 @@ pub returns : goal.returns
 returns c =
     let Comes = IsCanonical c.args.origin.now c.args.text.now in
     let answered : IsAnsweredBy Comes c.args.out.now c.give.new.out c.give.new.needed c.give.result =
-    answered_by Comes c.canonical_text.result c.args.out.now c.give.new.out c.give.new.needed c.give.result c.canonical_text.ensures c.give.ensures in
+    answered_by Comes c.canonical_text.result c.args.out.now c.give.new.out c.give.new.needed c.give.result
+    c.canonical_text.ensures c.give.ensures in
     search rules

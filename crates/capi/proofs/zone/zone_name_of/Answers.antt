@@ -9,7 +9,9 @@ returns-then-is_empty c = inr (no_zone_named c.args.text.now (sym c.if-is_empty.
 pub returns-in_err-name : goal.returns-in_err-name
 returns-in_err-name c =
     let p = err_from_is_err_and c.from_residual.result c.from_residual.ensures.1 in
-    rw (p.1, p.2) (zone_unnamed c.args.text.now c.in_err-name.field-0.0.number (sym c.if-is_empty.false ∙ c.is_empty.ensures) c.in_err-name.ensures)
+    rw (p.1, p.2) (zone_unnamed c.args.text.now c.in_err-name.field-0.0.number
+    (sym c.if-is_empty.false ∙ c.is_empty.ensures) c.in_err-name.ensures)
 
 pub returns : goal.returns
-returns c = zone_named c.args.text.now _ (sym c.if-is_empty.false ∙ c.is_empty.ensures) c.in_ok-name.ensures ∙ ap Ok (sym c.set_fqdn.ensures)
+returns c = zone_named c.args.text.now _ (sym c.if-is_empty.false ∙ c.is_empty.ensures) c.in_ok-name.ensures
+    ∙ ap Ok (sym c.set_fqdn.ensures)

@@ -10,7 +10,8 @@ pub returns-in_err-written : goal.returns-in_err-written
 returns-in_err-written c =
     let p = err_from_is_err_and c.from_residual-in_err-written.result c.from_residual-in_err-written.ensures.1 in
     let found = c.in_ok-message.ensures.found in
-    rw (p.1, p.2) (refusal_answers c.args.limit c.args.text.now c.deref.result.now (message_value c.in_ok-message.message) found.0
+    rw (p.1, p.2) (refusal_answers c.args.limit c.args.text.now c.deref.result.now
+    (message_value c.in_ok-message.message) found.0
     (c.in_ok-bytes.ensures ∙ ap Ok (sym c.deref.ensures.value)) found.1 c.in_err-written.field-0.0
     c.in_err-written.ensures.refusal)
 
@@ -19,4 +20,5 @@ returns c =
     let found = c.in_ok-message.ensures.found in
     cut_answers c.args.limit c.args.text.now c.deref.result.now (message_value c.in_ok-message.message) found.0
     (c.in_ok-bytes.ensures ∙ ap Ok (sym c.deref.ensures.value)) found.1 c.in_ok-written.written.items
-    (string_bytes c.in_ok-hex_line.field-0) (c.in_ok-written.ensures.written c.in_ok-message.ensures.fits) c.in_ok-written.ensures.answer (c.in_ok-hex_line.ensures ∙ ap hex_line c.deref-2.ensures.value)
+    (string_bytes c.in_ok-hex_line.field-0) (c.in_ok-written.ensures.written c.in_ok-message.ensures.fits)
+    c.in_ok-written.ensures.answer (c.in_ok-hex_line.ensures ∙ ap hex_line c.deref-2.ensures.value)

@@ -9,6 +9,7 @@ pub returns : goal.returns
 returns c =
     let added = items_from_extend c.extend.result c.extend.ensures.ran
     (YieldsList-from_filter _ (λ byte. not (is_hex_blank byte))
-    (YieldsList-at c.filter.ensures.source (YieldsList-from_copied (YieldsList-at c.copied.ensures.source (YieldsList-from_slice c.args.text.now c.iter.ensures.rest))))
+    (YieldsList-at c.filter.ensures.source (YieldsList-from_copied
+    (YieldsList-at c.copied.ensures.source (YieldsList-from_slice c.args.text.now c.iter.ensures.rest))))
     c.filter.ensures.closure (λ x r q k. search (rules, tests))) in
     search rules

@@ -5,4 +5,5 @@ use Rattle.commands.specs.ZoneCommand.{text_named}
 use Rattle.commands.proofs.zone_command.included_texts.Given as goal
 
 abbrev pub invariant-loop-word : goal.invariant-loop-word
-invariant-loop-word l = (name : List ℕ) → texts_in l.includes name ≡ text_named (as_bytes (take l.word-index l.words)) name
+invariant-loop-word l = (name : List ℕ) → texts_in l.includes name ≡ text_named
+    (as_bytes (take l.word-index l.words)) name

@@ -10,6 +10,7 @@ returns-clause-kept c =
       end = found.0.0;
       stands = found.0.1;
       is_response = found.1;
-      answers = c.run_down-answers.ensures ∙ ap (λ m. map (decremented c.args.seconds) m.answers) c.into_message.ensures;
+      answers = c.run_down-answers.ensures ∙ ap
+          (λ m. map (decremented c.args.seconds) m.answers) c.into_message.ensures;
       negative = search rules;
     }

@@ -11,4 +11,5 @@ loop-entry-preserved c =
     let i = c.loop-entry.entry-index in
     ap (λ (x : Record RData). set ys i x) c.age.ensures
     ∙ ap (λ (x : Record RData). set ys i (decremented c.args.seconds x)) (sym c.entry-item.is)
-    ∙ map_over_more (decremented c.args.seconds) _ _ i c.entry-item.result (search arith) c.loop-entry.invariant c.entry-item.is
+    ∙ map_over_more (decremented c.args.seconds) _ _ i c.entry-item.result
+    (search arith) c.loop-entry.invariant c.entry-item.is

@@ -1,7 +1,7 @@
 use Rattle.std.proofs.Common.{◌≡◌, ◌∙◌, ◌⊎◌, Result, Ok, Err, [], ap, subst, sym}
 use Rattle.std.proofs.lemmas.Result.{IfOk-weaker}
 use Rattle.std.specs.Prelude.{IfErr, IfOk}
-use Rattle.base.specs.Labels.{NameValue}
+use Rattle.base.specs.names.Labels.{NameValue}
 use Rattle.base.specs.declared.error.proto_error.ProtoError.TheVariants as refusals
 use Rattle.op.proofs.AnswerLaws.{answer_bytes}
 use Rattle.op.specs.Cut.{IsWritten}
@@ -20,9 +20,11 @@ pub returns-clause-written : goal.returns-clause-written
 returns-clause-written c =
     let same : c.in_ok-clone.field-0 ≡ c.args.origin.now = c.in_ok-clone.ensures.cases in
     let built = c.in_ok-update.ensures.built ∙ ap (λ (origin : NameValue). creating origin c.args.set) same in
-    under (IsSendable c.args.origin.now c.args.set) (λ bytes. IsWritten (creating c.args.origin.now c.args.set) 65535 bytes.items) c.to_vec.result (λ sendable.
+    under (IsSendable c.args.origin.now c.args.set)
+    (λ bytes. IsWritten (creating c.args.origin.now c.args.set) 65535 bytes.items) c.to_vec.result (λ sendable.
     subst (λ (m : MessageValue). IfOk c.to_vec.result (λ bytes. IsWritten m 65535 bytes.items)) built
-    (c.to_vec.ensures.written (c.in_ok-update.ensures.fits (subst (λ (origin : NameValue). IsSendable origin c.args.set) (sym same) sendable))))
+    (c.to_vec.ensures.written (c.in_ok-update.ensures.fits
+    (subst (λ (origin : NameValue). IsSendable origin c.args.set) (sym same) sendable))))
 
 pub returns-clause-exact : goal.returns-clause-exact
 returns-clause-exact c =
@@ -37,5 +39,6 @@ pub returns-clause-refused : goal.returns-clause-refused
 returns-clause-refused c =
     let same : c.in_ok-clone.field-0 ≡ c.args.origin.now = c.in_ok-clone.ensures.cases in
     let built = c.in_ok-update.ensures.built ∙ ap (λ (origin : NameValue). creating origin c.args.set) same in
-    subst (λ (m : MessageValue). IfErr c.to_vec.result (λ e. (e ≡ refusals.Memory) ⊎ (message_answer 65535 m ≡ Err e))) built
+    subst (λ (m : MessageValue). IfErr c.to_vec.result (λ e. (e ≡ refusals.Memory) ⊎ (message_answer 65535 m ≡ Err e)))
+    built
     c.to_vec.ensures.refusal

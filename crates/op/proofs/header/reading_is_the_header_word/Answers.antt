@@ -1,4 +1,4 @@
-use Rattle.op.proofs.HeaderReading.{reads_word, faults_short}
+use Rattle.op.proofs.reading.HeaderReading.{reads_word, faults_short}
 use Rattle.op.proofs.header.reading_is_the_header_word.Goals as goal
 
 pub returns-clause-word : goal.returns-clause-word

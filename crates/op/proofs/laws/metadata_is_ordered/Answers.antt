@@ -1,4 +1,4 @@
-use Rattle.op.proofs.Orders.{metadata_order-is}
+use Rattle.op.proofs.equality.Orders.{metadata_order-is}
 use Rattle.op.proofs.laws.metadata_is_ordered.Goals as goal
 
 pub returns : goal.returns

@@ -1,5 +1,5 @@
 use Rattle.op.specs.contracts.query.QueryHash.TheImpl.Laws.{respects_eq-law}
-use Rattle.op.proofs.QueryEquals.{equal_is}
+use Rattle.op.proofs.equality.QueryEquals.{equal_is}
 use Rattle.op.proofs.query.equal_questions.Goals as goal
 
 pub returns-clause-equal : goal.returns-clause-equal

@@ -9,6 +9,8 @@ returns-clause-found c =
     let at = c.args.decoder.now in
     let s = bytes_is 4 at.bytes at.index _ c.in_ok-type_high.ensures.read.0 in
     let here : at.index + 0 ≡ at.index = omega arith in (
-      subst (λ k. IsNumberAt w16 at.bytes k c.from_be_bytes.result) here (subst (IsNumberAt w16 at.bytes (at.index + 0)) (sym c.from_be_bytes.ensures) (number16_among s 0 (omega arith))),
+      subst (λ k. IsNumberAt w16 at.bytes k c.from_be_bytes.result) here
+          (subst (IsNumberAt w16 at.bytes (at.index + 0)) (sym c.from_be_bytes.ensures)
+          (number16_among s 0 (omega arith))),
       subst (IsNumberAt w16 at.bytes (at.index + 2)) (sym c.from_be_bytes-2.ensures) (number16_among s 2 (omega arith)),
     )

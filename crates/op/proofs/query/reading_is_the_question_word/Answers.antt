@@ -1,4 +1,4 @@
-use Rattle.op.proofs.QueryLemmas.{reads_question, refuses_question, question_same}
+use Rattle.op.proofs.reading.QueryLemmas.{reads_question, refuses_question, question_same}
 use Rattle.op.proofs.query.reading_is_the_question_word.Goals as goal
 
 pub returns-clause-word : goal.returns-clause-word

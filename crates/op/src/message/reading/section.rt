@@ -1,8 +1,8 @@
 //! Reads the records of a section (RFC 1035, 4.1.3).
 
-ghost use Rattle.std.specs.Prelude.{[], ◌≡◌, ◌≤◌, IfOk, OnOk, Option, false, ℕ};
-ghost use Rattle.base.specs.Tracks.{Tracks};
-ghost use Rattle.base.specs.Reading.{Reads};
+ghost use Rattle.std.specs.Prelude.{[], ◌≡◌, OnOk, Option, false};
+ghost use Rattle.base.specs.reading.Tracks.{Tracks};
+ghost use Rattle.base.specs.reading.Reading.{Reads};
 ghost use Rattle.base_data.specs.Kinds.{type_of_data};
 ghost use Rattle.base_data.specs.RData.{is_signature_data};
 ghost use Rattle.rr.specs.Record.{is_opt_type};

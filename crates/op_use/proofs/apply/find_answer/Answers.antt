@@ -1,9 +1,8 @@
 use Rattle.op.specs.Message.{message_value}
 use Rattle.op_use.proofs.WholeSteps.{applied_all, applied_fault, applied_not}
 use Rattle.op_use.proofs.apply.find_answer.Goals as goal
-use Rattle.op_use.specs.HeldZone.{HeldZone, zone_held}
-use Rattle.op_use.specs.Outcome.{IsOutcome, UpdatesTo}
-use Rattle.op_use.specs.Server.{fault, sections_of}
+use Rattle.op_use.specs.Outcome.{UpdatesTo}
+use Rattle.op_use.specs.Server.{sections_of}
 use Rattle.base_data.specs.declared.rdata.RData.{RData}
 use Rattle.rr.specs.declared.record.Record.{Record}
 use Rattle.std.proofs.Common.{List, subst, sym, ◌∙◌}
@@ -13,11 +12,14 @@ invariant_of-zone c = c.requires
 
 pub returns-then-not-is_supported : goal.returns-then-not-is_supported
 returns-then-not-is_supported c =
-    applied_not c.args.origin.now c.args.class c.args.sets.now (sections_of (message_value c.args.message.now)) c.requires (sym c.is_supported.ensures ∙ c.if-not-is_supported.true)
+    applied_not c.args.origin.now c.args.class c.args.sets.now
+    (sections_of (message_value c.args.message.now)) c.requires
+    (sym c.is_supported.ensures ∙ c.if-not-is_supported.true)
 
 pub returns-in-Some : goal.returns-in-Some
 returns-in-Some c =
-    applied_fault c.args.origin.now c.args.class c.args.sets.now (sections_of (message_value c.args.message.now)) c.in-Some.code c.requires
+    applied_fault c.args.origin.now c.args.class c.args.sets.now
+    (sections_of (message_value c.args.message.now)) c.in-Some.code c.requires
     (sym c.is_supported.ensures ∙ c.if-not-is_supported.false) (sym c.in_ok-code.ensures ∙ c.in-Some.is)
 
 pub returns : goal.returns
@@ -28,6 +30,9 @@ returns c =
     let sets = c.args.sets.now in (
       c.in_ok-outcome.ensures.stays,
       λ new installs.
-          let both = subst (λ (rs : List (Record RData)). UpdatesTo rs (record { origin = origin; class = class; sets = sets }) c.in_ok-outcome.outcome) c.deref.ensures.value c.in_ok-outcome.ensures.updated new installs in
-          applied_all origin class sets new s (sym c.is_supported.ensures ∙ c.if-not-is_supported.false) (sym c.in_ok-code.ensures ∙ c.in_default.is) both.0 both.1,
+          let both = subst (λ (rs : List (Record RData)). UpdatesTo rs
+          (record { origin = origin; class = class; sets = sets }) c.in_ok-outcome.outcome) c.deref.ensures.value
+          c.in_ok-outcome.ensures.updated new installs in
+          applied_all origin class sets new s c.requires (sym c.is_supported.ensures ∙ c.if-not-is_supported.false)
+          (sym c.in_ok-code.ensures ∙ c.in_default.is) both.0 both.1,
     )

@@ -1,6 +1,6 @@
 use Rattle.std.proofs.Common.{◌≡◌, ◌&&◌}
 use Rattle.std.specs.List.{list_any}
-use Rattle.base.specs.NameOrder.{is_zone_of}
+use Rattle.base.specs.names.NameOrder.{is_zone_of}
 use Rattle.base.specs.declared.record_type.RecordType.TheVariants as types
 use Rattle.op.specs.Message.{message_value}
 use Rattle.op.specs.Parts.{all_records}
@@ -10,4 +10,5 @@ use Rattle.op_use.proofs.dns_response.has_soa_above.Given as goal
 -- what is left says as much as all
 abbrev pub invariant-loop-record : goal.invariant-loop-record
 invariant-loop-record l =
-    list_any (λ r. is_of types.SOA r && is_zone_of r.name l.name) l.record-iterator ≡ list_any (λ r. is_of types.SOA r && is_zone_of r.name l.name) (all_records (message_value l.message))
+    list_any (λ r. is_of types.SOA r && is_zone_of r.name l.name) l.record-iterator ≡ list_any
+    (λ r. is_of types.SOA r && is_zone_of r.name l.name) (all_records (message_value l.message))

@@ -1,7 +1,7 @@
 use Rattle.std.proofs.Common.{◌∙◌, rules}
 use Rattle.base.specs.declared.limits.TheConstants.{MAX_MESSAGE}
 use Rattle.op.specs.Message.{message_value}
-use Rattle.op.proofs.AnswerLemmas.{new_answer, new_of}
+use Rattle.op.proofs.writing.AnswerLemmas.{new_answer, new_of}
 use Rattle.op_use.proofs.dns_response.write.Goals as goal
 
 pub returns-clause-answer : goal.returns-clause-answer

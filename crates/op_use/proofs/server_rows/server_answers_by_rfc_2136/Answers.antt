@@ -1,4 +1,5 @@
-use Rattle.op_use.proofs.ServerRowsLemmas.{add_rows, builder_rows, delete_record_rows, delete_set_rows, order_rows, prerequisite_rows, prescan_rows, zone_section_rows}
+use Rattle.op_use.proofs.ServerRowsLemmas.{add_rows, builder_rows, delete_record_rows, delete_set_rows, order_rows}
+use Rattle.op_use.proofs.ServerRowsLemmas.{prerequisite_rows, prescan_rows, zone_section_rows}
 use Rattle.op_use.proofs.server_rows.server_answers_by_rfc_2136.Goals as goal
 
 pub returns : goal.returns

@@ -9,4 +9,5 @@ use Rattle.std.specs.List.{list_all}
 -- what is left decides
 abbrev pub invariant-loop-entry : goal.invariant-loop-entry
 invariant-loop-entry l =
-    list_all (λ (r : Record RData). is_in r.dns_class) (records_left l.entry-iterator) ≡ list_all (λ (r : Record RData). is_in r.dns_class) l.set.records
+    list_all (λ (r : Record RData). is_in r.dns_class) (records_left l.entry-iterator) ≡ list_all
+    (λ (r : Record RData). is_in r.dns_class) l.set.records

@@ -4,4 +4,5 @@ use Rattle.op.specs.MessageText.{record_lines}
 use Rattle.parsed_zone.proofs.zone_text.add_records.Given as goal
 
 abbrev pub invariant-loop-entry : goal.invariant-loop-entry
-invariant-loop-entry l = string_bytes l.lines ++ record_lines l.entry-iterator.rest.items ≡ string_bytes l.fn.lines ++ record_lines l.fn.records.items
+invariant-loop-entry l = string_bytes l.lines ++ record_lines l.entry-iterator.rest.items
+    ≡ string_bytes l.fn.lines ++ record_lines l.fn.records.items

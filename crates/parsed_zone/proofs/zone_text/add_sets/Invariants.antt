@@ -4,4 +4,5 @@ use Rattle.parsed_zone.specs.ZoneText.{set_lines}
 use Rattle.parsed_zone.proofs.zone_text.add_sets.Given as goal
 
 abbrev pub invariant-loop-key : goal.invariant-loop-key
-invariant-loop-key l = string_bytes l.lines ++ set_lines l._key-iterator.rest.items ≡ string_bytes l.fn.lines ++ set_lines l.fn.sets.items
+invariant-loop-key l = string_bytes l.lines ++ set_lines l._key-iterator.rest.items
+    ≡ string_bytes l.fn.lines ++ set_lines l.fn.sets.items

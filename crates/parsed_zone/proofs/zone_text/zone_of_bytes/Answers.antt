@@ -7,5 +7,6 @@ use Rattle.parsed_zone.proofs.zone_text.zone_of_bytes.Goals as goal
 
 pub returns-clause-zone : goal.returns-clause-zone
 returns-clause-zone c =
-    subst (λ (texts : Texts). MakesOrRefuses (λ r. (r.0, r.1.entries)) (zone_of_bytes texts c.args.origin c.args.bytes.now) c.zone_with_texts.result)
+    subst (λ (texts : Texts). MakesOrRefuses (λ r. (r.0, r.1.entries))
+    (zone_of_bytes texts c.args.origin c.args.bytes.now) c.zone_with_texts.result)
     (none_in c.new-none.result c.new-none.ensures.empty) c.zone_with_texts.ensures.zone

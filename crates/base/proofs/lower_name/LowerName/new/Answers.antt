@@ -1,4 +1,4 @@
-use Rattle.base.proofs.CompareLemmas.{folded_lower}
+use Rattle.base.proofs.names.CompareLemmas.{folded_lower}
 use Rattle.base.proofs.lower_name.LowerName.new.Goals as goal
 
 pub invariant_of-result : goal.invariant_of-result

@@ -1,15 +1,17 @@
-use Rattle.std.proofs.Common.{◌≡◌, ℕ, ◌+◌, ◌≤◌, ◌∙◌, List, [], ◌∷◌, ◌++◌, length, length-append, take, refl, Err, Some, None, ap, sym, arith}
+use Rattle.std.proofs.Common.{◌≡◌, ℕ, ◌+◌, ◌≤◌, ◌∙◌, List, [], ◌∷◌, ◌++◌, length, length-append, take, refl, Err, Some}
+use Rattle.std.proofs.Common.{None, ap, sym, arith}
 use Rattle.std.proofs.lemmas.List.{length-take-le, take_at}
 use Rattle.std.proofs.lemmas.Result.{err_from_is_err_and}
-use Rattle.base.specs.AppendError.{refusal, told}
-use Rattle.base.specs.Labels.{labels_of}
-use Rattle.base.specs.State.{State, appended, stored}
-use Rattle.base.specs.Wire.{state_of}
-use Rattle.base.specs.Written.{after, both, just, label_of, name}
-use Rattle.base.proofs.LabelLemmas.{IsWire-wire_of}
-use Rattle.base.proofs.LawLemmas.{Keeps-same, Keeps-then}
-use Rattle.base.proofs.SaysLemmas.{Keeps-label}
-use Rattle.base.proofs.WrittenLemmas.{Exactly-first, Exactly-from, Exactly-refused, after-both, name-by, label-after}
+use Rattle.base.specs.writing.AppendError.{refusal, told}
+use Rattle.base.specs.names.Labels.{labels_of}
+use Rattle.base.specs.writing.State.{State, appended, stored}
+use Rattle.base.specs.writing.Wire.{state_of}
+use Rattle.base.specs.writing.Written.{after, both, just, label_of, name}
+use Rattle.base.proofs.names.LabelLemmas.{IsWire-wire_of}
+use Rattle.base.proofs.writing.LawLemmas.{Keeps-same, Keeps-then}
+use Rattle.base.proofs.writing.SaysLemmas.{Keeps-label}
+use Rattle.base.proofs.writing.WrittenLemmas.{Exactly-first, Exactly-from, Exactly-refused, after-both, name-by}
+use Rattle.base.proofs.writing.WrittenLemmas.{label-after}
 use Rattle.base.proofs.name.Name.append_to.Goals as goal
 
 pub loop-label-init : goal.loop-label-init
@@ -29,13 +31,15 @@ label_bytes rest x tail is = ap (take (1 + length x)) is ∙ take_at (length x �
 pub slice_bounds-append-end-in-Some : goal.slice_bounds-append-end-in-Some
 slice_bounds-append-end-in-Some c =
     let x = c.in-Some.label.now in
-    sym (length-take-le (1 + length x) c.loop-label.rest.now (omega (arith, ap length c.in-Some.ensures.bytes, length-append (length x ∷ x) c.in-Some.tail.now)))
+    sym (length-take-le (1 + length x) c.loop-label.rest.now
+    (omega (arith, ap length c.in-Some.ensures.bytes, length-append (length x ∷ x) c.in-Some.tail.now)))
 
 pub store-requires-clause-stands : goal.store-requires-clause-stands
 store-requires-clause-stands c =
     let x = c.in-Some.label.now in
     let s = state_of c.loop-label.encoder in
-    let wrote = c.in_ok-append.ensures.exact ∙ ap (λ bytes. appended bytes s) (label_bytes _ _ _ c.in-Some.ensures.bytes) in
+    let wrote = c.in_ok-append.ensures.exact ∙ ap (λ bytes. appended bytes s)
+    (label_bytes _ _ _ c.in-Some.ensures.bytes) in
     omega (arith, c.len-at.ensures, ap (λ (u : State). length u.bytes) wrote, length-append s.bytes (length x ∷ x))
 
 pub loop-label-preserved : goal.loop-label-preserved
@@ -70,8 +74,10 @@ pub returns-in-Some-find-clause-exact : goal.returns-in-Some-find-clause-exact
 returns-in-Some-find-clause-exact c =
     let o = c.in-Some-find.offset in
     let s = state_of c.loop-label.encoder in
-    Exactly-from (told c.append.result) (name c.args.self.now.labels) (just c.to_be_bytes.result) (state_of c.args.encoder.now) s (state_of c.append.new.self)
-    (c.loop-label.invariant.exact ∙ name-by _ _ _ (Some o) s c.in-Some.ensures.labels c.in-Some-find.ensures.value ∙ ap (λ bytes. after (just bytes) s) (sym c.to_be_bytes.ensures))
+    Exactly-from (told c.append.result) (name c.args.self.now.labels) (just c.to_be_bytes.result)
+    (state_of c.args.encoder.now) s (state_of c.append.new.self)
+    (c.loop-label.invariant.exact ∙ name-by _ _ _ (Some o) s c.in-Some.ensures.labels c.in-Some-find.ensures.value
+    ∙ ap (λ bytes. after (just bytes) s) (sym c.to_be_bytes.ensures))
     c.append.ensures.exact
 
 pub returns-in_err-append-clause-exact : goal.returns-in_err-append-clause-exact
@@ -93,7 +99,8 @@ returns-in_err-append-clause-exact c =
 pub returns-clause-exact : goal.returns-clause-exact
 returns-clause-exact c =
     let s = state_of c.loop-label.encoder in
-    Exactly-from (told c.append-2.result) (name c.args.self.now.labels) (just (0 ∷ [])) (state_of c.args.encoder.now) s (state_of c.append-2.new.self)
+    Exactly-from (told c.append-2.result) (name c.args.self.now.labels) (just (0 ∷ [])) (state_of c.args.encoder.now) s
+    (state_of c.append-2.new.self)
     (c.loop-label.invariant.exact ∙ ap (λ labels. after (name labels) s) c.in_default.ensures.labels)
     c.append-2.ensures.exact
 

@@ -1,8 +1,8 @@
 use Rattle.std.proofs.Common.{◌≡◌, length}
-use Rattle.base.specs.Labels.{IsWire, labels_of}
-use Rattle.base.specs.Laws.{Keeps}
-use Rattle.base.specs.Wire.{state_of}
-use Rattle.base.specs.Written.{after, name}
+use Rattle.base.specs.names.Labels.{IsWire, labels_of}
+use Rattle.base.specs.writing.Laws.{Keeps}
+use Rattle.base.specs.writing.Wire.{state_of}
+use Rattle.base.specs.writing.Written.{after, name}
 use Rattle.base.proofs.name.Name.append_to.Given as goal
 
 abbrev pub invariant-loop-label : goal.invariant-loop-label

@@ -1,6 +1,6 @@
 use Rattle.std.proofs.Common.{ap, arith}
-use Rattle.base.specs.Labels.{NameValue, plain_len}
-use Rattle.base.proofs.LabelLemmas.{size_of-labels_of}
+use Rattle.base.specs.names.Labels.{NameValue, plain_len}
+use Rattle.base.proofs.names.LabelLemmas.{size_of-labels_of}
 use Rattle.base.proofs.name.Name.as_wire.Goals as goal
 
 pub returns-clause-plain : goal.returns-clause-plain

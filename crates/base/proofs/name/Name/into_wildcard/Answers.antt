@@ -1,6 +1,6 @@
-use Rattle.base.proofs.WildcardLemmas.{wildcard_labels, wildcard_wire}
+use Rattle.base.proofs.names.WildcardLemmas.{wildcard_labels, wildcard_wire}
 use Rattle.base.proofs.name.Name.into_wildcard.Goals as goal
-use Rattle.base.specs.StoredLabels.{StoredLabels}
+use Rattle.base.specs.names.StoredLabels.{StoredLabels}
 use Rattle.std.proofs.Common.{ap, sym, ◌∙◌}
 
 pub invariant_of-result : goal.invariant_of-result

@@ -1,7 +1,7 @@
 use Rattle.std.proofs.Common.{List, ℕ, ap, sym, ◌∙◌}
 use Rattle.std.specs.Prelude.{slice_get}
-use Rattle.base.specs.Labels.{wire_of}
-use Rattle.base.proofs.LabelLemmas.{labels_of_is}
+use Rattle.base.specs.names.Labels.{wire_of}
+use Rattle.base.proofs.names.LabelLemmas.{labels_of_is}
 use Rattle.base.proofs.name.Name.label.Goals as goal
 
 pub loop-label-init : goal.loop-label-init

@@ -1,6 +1,6 @@
 use Rattle.std.proofs.Common.{length, ap, sym, ◌∙◌, arith}
-use Rattle.base.specs.Labels.{wire_of}
-use Rattle.base.proofs.LabelLemmas.{labels_of_is}
+use Rattle.base.specs.names.Labels.{wire_of}
+use Rattle.base.proofs.names.LabelLemmas.{labels_of_is}
 use Rattle.base.proofs.name.Name.label_count.Goals as goal
 
 pub loop-tail-init : goal.loop-tail-init

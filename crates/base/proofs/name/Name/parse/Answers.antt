@@ -1,4 +1,4 @@
-use Rattle.base.proofs.Giving.{gives_name}
+use Rattle.base.proofs.texts.Giving.{gives_name}
 use Rattle.base.proofs.name.Name.parse.Goals as goal
 
 pub returns-clause-reads : goal.returns-clause-reads

@@ -2,8 +2,8 @@ use Rattle.std.proofs.Common.{[], ◌∷◌, Err, refl, ap, sym, ◌∙◌, subs
 use Rattle.std.proofs.lemmas.Result.{err_from_is_err_and}
 use Rattle.std.specs.Cmp.Lexicographic.{bytes_decides}
 use Rattle.std.specs.Option.{option_copied}
-use Rattle.base.specs.NameText.{IsNameText, is_root, is_origin}
-use Rattle.base.proofs.NamedLemmas.{named_answers, memory_answers, bad_answers, no_origin}
+use Rattle.base.specs.texts.NameText.{IsNameText, is_root, is_origin}
+use Rattle.base.proofs.texts.NamedLemmas.{named_answers, memory_answers, bad_answers, no_origin}
 use Rattle.base.proofs.name.Name.parse_text.Goals as goal
 
 pub returns-then-eq-clause-named : goal.returns-then-eq-clause-named
@@ -35,4 +35,5 @@ returns-then-eq-2-clause-named c =
 pub returns-then-eq-2-clause-refused : goal.returns-then-eq-2-clause-refused
 returns-then-eq-2-clause-refused c =
     let text = (bytes_decides c.args.text.now (64 ∷ [])).0 (sym c.eq-2.ensures ∙ c.if-eq-2.true) in
-    named_answers refl (subst (IsNameText _ _) (sym c.in_ok-clone.ensures.cases) (is_origin (ap option_copied c.in-Some.is) text))
+    named_answers refl (subst (IsNameText _ _) (sym c.in_ok-clone.ensures.cases)
+    (is_origin (ap option_copied c.in-Some.is) text))

@@ -2,13 +2,18 @@ use Rattle.std.proofs.Common.{◌≡◌, ◌≤◌, ap, arith, length, refl, sub
 use Rattle.std.proofs.lemmas.Bool.{false≢true}
 use Rattle.std.specs.Prelude.{map}
 use Rattle.std.specs.Char.{to_ascii_lowercase}
-use Rattle.base.specs.Labels.{IsWire, NameValue, labels_of, wire_of}
-use Rattle.base.specs.StoredLabels.{StoredLabels, lower_labels}
-use Rattle.base.proofs.CompareLemmas.{IsWire-lower, labels_of-lower, lowered_is}
+use Rattle.base.specs.names.Labels.{IsWire, NameValue, labels_of, wire_of}
+use Rattle.base.specs.names.StoredLabels.{StoredLabels, lower_labels}
+use Rattle.base.proofs.names.CompareLemmas.{IsWire-lower, labels_of-lower, lowered_is}
 use Rattle.base.proofs.name.Name.to_lowercase.Goals as goal
 
 -- the copy's letters were lowered
-copied : (c : goal.After-make_ascii_lowercase) → c.make_ascii_lowercase.new.self ≡ record { items = map to_ascii_lowercase c.self.inside.labels.items; is_fqdn = c.self.inside.labels.is_fqdn }
+copied : (c : goal.After-make_ascii_lowercase)
+    → c.make_ascii_lowercase.new.self ≡ record {
+      items = map to_ascii_lowercase c.self.inside.labels.items;
+      is_fqdn =
+          c.self.inside.labels.is_fqdn;
+    }
 copied c =
     c.make_ascii_lowercase.ensures ∙ ap lower_labels c.in_ok-labels.ensures.value
     ∙ ap (λ (o : StoredLabels). lower_labels o) (rw (c.as_slice.ensures, c.is_fqdn.ensures) refl)

@@ -1,6 +1,6 @@
 use Rattle.base.specs.contracts.name.compare.NameHash.TheImpl.Laws.{respects_eq-law}
-use Rattle.base.specs.NameOrder.{folded}
-use Rattle.base.specs.NameOrderLaws.{same_by-is, cmp_by-ties}
+use Rattle.base.specs.names.NameOrder.{folded}
+use Rattle.base.specs.names.NameOrderLaws.{same_by-is, cmp_by-ties}
 use Rattle.base.proofs.name.compare.name_order.Goals as goal
 
 pub returns-clause-equal : goal.returns-clause-equal

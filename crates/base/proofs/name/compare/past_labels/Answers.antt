@@ -1,5 +1,5 @@
 use Rattle.std.proofs.Common.{◌∙◌, sym, arith}
-use Rattle.base.proofs.CompareLemmas.{drop_one_more, drop_to_none}
+use Rattle.base.proofs.names.CompareLemmas.{drop_one_more, drop_to_none}
 use Rattle.base.proofs.name.compare.past_labels.Goals as goal
 
 pub returns-in_default-clause-labels : goal.returns-in_default-clause-labels

@@ -1,5 +1,5 @@
 use Rattle.std.proofs.Common.{◌≡◌, drop}
-use Rattle.base.specs.Labels.{wire_of, labels_of}
+use Rattle.base.specs.names.Labels.{wire_of, labels_of}
 use Rattle.base.proofs.name.compare.past_labels.Given as goal
 
 abbrev pub invariant-loop : goal.invariant-loop

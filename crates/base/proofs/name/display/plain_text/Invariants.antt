@@ -1,5 +1,5 @@
 use Rattle.std.proofs.Common.{◌≡◌, take}
-use Rattle.base.specs.NameText.{label_text}
+use Rattle.base.specs.texts.NameText.{label_text}
 use Rattle.base.proofs.name.display.plain_text.Given as goal
 
 abbrev pub invariant-loop-b : goal.invariant-loop-b

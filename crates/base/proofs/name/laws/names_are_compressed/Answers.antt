@@ -1,4 +1,4 @@
-use Rattle.base.proofs.CompressionLemmas.{compressed}
+use Rattle.base.proofs.writing.CompressionLemmas.{compressed}
 use Rattle.base.proofs.name.laws.names_are_compressed.Goals as goal
 
 pub returns : goal.returns

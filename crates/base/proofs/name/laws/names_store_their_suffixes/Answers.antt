@@ -1,4 +1,4 @@
-use Rattle.base.proofs.SaysLemmas.{name-stores}
+use Rattle.base.proofs.writing.SaysLemmas.{name-stores}
 use Rattle.base.proofs.name.laws.names_store_their_suffixes.Goals as goal
 
 pub returns : goal.returns

@@ -1,4 +1,4 @@
-use Rattle.base.proofs.ReadingLemmas.{name_is, name_fault, name_again, fault_again}
+use Rattle.base.proofs.reading.ReadingLemmas.{name_is, name_fault, name_again, fault_again}
 use Rattle.base.proofs.name.laws.reading_is_spelling.Goals as goal
 
 pub returns-clause-spelled : goal.returns-clause-spelled

@@ -1,4 +1,5 @@
-use Rattle.base.proofs.SpellingLemmas.{spelled_once, spelled_kept, spelled_anywhere, spelled_longer, spelled_patched}
+use Rattle.base.proofs.reading.SpellingLemmas.{spelled_once, spelled_kept, spelled_anywhere, spelled_longer}
+use Rattle.base.proofs.reading.SpellingLemmas.{spelled_patched}
 use Rattle.base.proofs.name.laws.spellings_stay.Goals as goal
 
 pub returns-clause-once : goal.returns-clause-once

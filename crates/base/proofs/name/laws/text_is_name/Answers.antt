@@ -1,4 +1,4 @@
-use Rattle.base.proofs.TextLawLemmas.{name_once, name_text_names}
+use Rattle.base.proofs.texts.TextLawLemmas.{name_once, name_text_names}
 use Rattle.base.proofs.name.laws.text_is_name.Goals as goal
 
 pub returns-clause-named : goal.returns-clause-named

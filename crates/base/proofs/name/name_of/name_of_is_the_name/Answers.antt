@@ -1,4 +1,4 @@
-use Rattle.base.proofs.NameOfLaws.{named_by, names, refused_names, refuses}
+use Rattle.base.proofs.texts.NameOfLaws.{named_by, names, refused_names, refuses}
 use Rattle.base.proofs.name.name_of.name_of_is_the_name.Goals as goal
 
 pub returns-clause-named : goal.returns-clause-named

@@ -1,5 +1,5 @@
 use Rattle.std.proofs.Common.{length}
-use Rattle.base.proofs.ParseLemmas.{Holds}
+use Rattle.base.proofs.texts.ParseLemmas.{Holds}
 use Rattle.base.proofs.name.parse.gather_labels.Given as goal
 
 abbrev pub invariant-chars : goal.invariant-chars

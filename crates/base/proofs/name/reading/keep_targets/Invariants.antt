@@ -1,6 +1,6 @@
 use Rattle.std.proofs.Common.{◌≡◌, ◌≤◌, ◌<◌, drop, length}
-use Rattle.base.specs.Pointers.{targets}
-use Rattle.base.specs.Passing.{inserted}
+use Rattle.base.specs.reading.Pointers.{targets}
+use Rattle.base.specs.reading.Passing.{inserted}
 use Rattle.base.specs.declared.wire.pointer_cache.Source.TheVariants.{Nowhere}
 use Rattle.base.proofs.name.reading.keep_targets.Given as goal
 

@@ -1,5 +1,5 @@
 use Rattle.std.proofs.Common.{◌≡◌, drop}
-use Rattle.base.specs.Tokens.{line_end}
+use Rattle.base.specs.texts.Tokens.{line_end}
 use Rattle.base.proofs.text.cutting.line_end.Given as goal
 
 abbrev pub invariant-loop-i : goal.invariant-loop-i

@@ -1,6 +1,6 @@
 use Rattle.std.proofs.Common.{◌≡◌, length}
 use Rattle.std.specs.Str.{IsUtf8}
-use Rattle.base.specs.Tokens.{past_blanks}
+use Rattle.base.specs.texts.Tokens.{past_blanks}
 use Rattle.base.proofs.text.cutting.past_blanks.Given as goal
 
 abbrev pub invariant-blanks : goal.invariant-blanks

@@ -1,6 +1,6 @@
 use Rattle.std.proofs.Common.{◌≡◌, length, false}
 use Rattle.std.specs.Str.{IsUtf8}
-use Rattle.base.specs.Tokens.{past_separators}
+use Rattle.base.specs.texts.Tokens.{past_separators}
 use Rattle.base.proofs.text.cutting.past_separators.Given as goal
 
 abbrev pub invariant-separators : goal.invariant-separators

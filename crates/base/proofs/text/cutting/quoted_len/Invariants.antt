@@ -1,5 +1,5 @@
 use Rattle.std.proofs.Common.{◌≡◌, false, take, drop}
-use Rattle.base.specs.Tokens.{before, quoted}
+use Rattle.base.specs.texts.Tokens.{before, quoted}
 use Rattle.base.proofs.text.cutting.quoted_len.Given as goal
 
 abbrev pub invariant-loop-i : goal.invariant-loop-i

@@ -1,7 +1,7 @@
 use Rattle.std.proofs.Common.{length}
 use Rattle.std.specs.Str.{IsUtf8}
-use Rattle.base.specs.Tokens.{texts}
-use Rattle.base.proofs.ListItems.{Listing}
+use Rattle.base.specs.texts.Tokens.{texts}
+use Rattle.base.proofs.texts.ListItems.{Listing}
 use Rattle.base.proofs.text.cutting.take_list.Given as goal
 
 abbrev pub invariant-items : goal.invariant-items

@@ -1,4 +1,4 @@
-use Rattle.base.proofs.ShapeLemmas.{item_shape, list_shape, quoted_shape}
+use Rattle.base.proofs.texts.ShapeLemmas.{item_shape, list_shape, quoted_shape}
 use Rattle.base.proofs.text.laws.tokens_have_three_shapes.Goals as goal
 
 pub returns-clause-item : goal.returns-clause-item

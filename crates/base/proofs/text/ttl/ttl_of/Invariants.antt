@@ -1,5 +1,5 @@
 use Rattle.std.proofs.Common.{◌≡◌, drop, None}
-use Rattle.base.specs.Ttl.{below_limit, ttl_sum}
+use Rattle.base.specs.texts.Ttl.{below_limit, ttl_sum}
 use Rattle.base.proofs.text.ttl.ttl_of.Given as goal
 
 -- what is left, after the sum so far and the number begun, is all

@@ -1,4 +1,4 @@
-use Rattle.base.proofs.TrackLemmas.{inserted-all}
+use Rattle.base.proofs.reading.TrackLemmas.{inserted-all}
 use Rattle.base.proofs.wire.laws.a_new_decoder_keeps_what_is_passed.Goals as goal
 use Rattle.std.proofs.Common.{◌∙◌}
 

@@ -1,4 +1,4 @@
-use Rattle.base.proofs.PatchLemmas.{Keeps-filled, Writes-filled}
+use Rattle.base.proofs.writing.PatchLemmas.{Keeps-filled, Writes-filled}
 use Rattle.base.proofs.wire.laws.filled_room_is_free.Goals as goal
 
 pub returns : goal.returns

@@ -1,5 +1,5 @@
-use Rattle.base.proofs.FittingLemmas.{all_fit, no_fewer_fit}
-use Rattle.base.proofs.FittingLemmas.{Fits-cut}
+use Rattle.base.proofs.writing.FittingLemmas.{all_fit, no_fewer_fit}
+use Rattle.base.proofs.writing.FittingLemmas.{Fits-cut}
 use Rattle.base.proofs.wire.laws.what_fits_under_a_limit.Goals as goal
 
 pub returns-clause-first : goal.returns-clause-first

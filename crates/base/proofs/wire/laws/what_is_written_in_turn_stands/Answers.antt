@@ -1,5 +1,5 @@
 use Rattle.std.proofs.Common.{length, arith}
-use Rattle.base.proofs.ItemLemmas.{Turn-each}
+use Rattle.base.proofs.writing.ItemLemmas.{Turn-each}
 use Rattle.base.proofs.wire.laws.what_is_written_in_turn_stands.Goals as goal
 
 pub returns : goal.returns

@@ -1,4 +1,4 @@
-use Rattle.base.proofs.SaysLemmas.{Exactly-writes, Says-refuses}
+use Rattle.base.proofs.writing.SaysLemmas.{Exactly-writes, Says-refuses}
 use Rattle.base.proofs.wire.laws.what_is_written_is_its_word.Goals as goal
 
 pub returns : goal.returns

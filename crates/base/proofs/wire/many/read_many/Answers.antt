@@ -1,20 +1,23 @@
 use Rattle.std.proofs.Common.{rules}
 use Rattle.std.proofs.lemmas.Result.{err_from_is_err_and}
-use Rattle.base.proofs.ManyLemmas.{gathers_more, gathers_all, gathers_fault}
-use Rattle.base.proofs.TrackLemmas.{bounded_after, bounded_here, refused_tracks, tracked_both, tracks_many_all, tracks_many_more, tracks_many_none}
+use Rattle.base.proofs.reading.ManyLemmas.{gathers_more, gathers_all, gathers_fault}
+use Rattle.base.proofs.reading.TrackLemmas.{bounded_after, bounded_here, refused_tracks, tracked_both, tracks_many_all}
+use Rattle.base.proofs.reading.TrackLemmas.{tracks_many_more, tracks_many_none}
 use Rattle.base.proofs.wire.many.read_many.Goals as goal
 
 pub returns-in_err-value-clause-read : goal.returns-in_err-value-clause-read
 returns-in_err-value-clause-read g c =
     let p = err_from_is_err_and c.from_residual-in_err-value.result c.from_residual-in_err-value.ensures.1 in
-    rw (p.1, p.2) (gathers_fault c.in_err-value.field-0.0 c.loop-test.true c.in_err-value.ensures.read c.loop.invariant.gathers)
+    rw (p.1, p.2) (gathers_fault c.in_err-value.field-0.0 c.loop-test.true c.in_err-value.ensures.read
+    c.loop.invariant.gathers)
 
 pub loop-init : goal.loop-init
 loop-init g c = record { gathers = search rules; tracks = tracks_many_none _ _ _ _ }
 
 pub loop-preserved : goal.loop-preserved
 loop-preserved g c = record {
-  gathers = rw (c.in_ok-push.ensures.items, c.in_ok-value.ensures.read.1) (gathers_more c.loop-test.true c.in_ok-value.ensures.read.0 c.loop.invariant.gathers);
+  gathers = rw (c.in_ok-push.ensures.items, c.in_ok-value.ensures.read.1)
+      (gathers_more c.loop-test.true c.in_ok-value.ensures.read.0 c.loop.invariant.gathers);
   tracks = tracks_many_more c.loop.invariant.tracks c.loop-test.true c.in_ok-value.ensures.read.0
       c.in_ok-value.ensures.tracks;
 }

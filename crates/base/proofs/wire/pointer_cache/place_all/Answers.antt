@@ -6,7 +6,7 @@ use Rattle.std.specs.Ordering.{nat_cmp}
 use Rattle.std.proofs.lemmas.List.{drop_more}
 use Rattle.base.specs.declared.wire.pointer_cache.TargetLabels.TheVariants.{Copied}
 use Rattle.base.specs.declared.wire.pointer_cache.Target.{Target}
-use Rattle.base.specs.Pointers.{target_entries, target_labels, placed}
+use Rattle.base.specs.reading.Pointers.{target_entries, target_labels, placed}
 use Rattle.base.proofs.reading.CacheLemmas.{found_again, longer_at, longer_both, one_placed}
 use Rattle.base.proofs.wire.pointer_cache.place_all.Goals as goal
 
@@ -23,14 +23,18 @@ loop-i-preserved c =
     let inside : i < length ts = omega (arith, c.loop-i-test.true, c.loop-i.auto.i) in
     let target = get_or ts i none in
     let next : i + 1 ≡ c.loop-i.i = omega (arith, c.loop-i-test.true) in
-    let split : drop i ts ≡ target ∷ drop c.loop-i.i ts = drop_more ts i none inside ∙ ap (λ (k : ℕ). target ∷ drop k ts) next in
+    let split : drop i ts ≡ target ∷ drop c.loop-i.i ts =
+    drop_more ts i none inside ∙ ap (λ (k : ℕ). target ∷ drop k ts) next in
     let here : placed now.bytes now.places.items target.offset ≡ Some (target_labels old.bytes target.labels) =
-    c.in_ok-place_one.ensures.here ∙ ap (λ (xs : List ℕ). Some xs) (longer_at c.loop-i.invariant.longer target.labels (c.requires.there i none inside)) in
+    c.in_ok-place_one.ensures.here ∙ ap (λ (xs : List ℕ). Some xs)
+    (longer_at c.loop-i.invariant.longer target.labels (c.requires.there i none inside)) in
     record {
       found = λ q.
-          one_placed old.bytes target (drop c.loop-i.i ts) (placed mid.bytes mid.places.items) (placed now.bytes now.places.items) (placed old.bytes old.places.items)
+          one_placed old.bytes target (drop c.loop-i.i ts) (placed mid.bytes mid.places.items)
+          (placed now.bytes now.places.items) (placed old.bytes old.places.items)
           c.loop-i.invariant.found here c.place_one.ensures.others q
-          ∙ ap (λ (rest : List Target). option_or (map.find nat_cmp q (target_entries old.bytes rest)) (placed old.bytes old.places.items q)) (sym split);
+          ∙ ap (λ (rest : List Target). option_or (map.find nat_cmp q (target_entries old.bytes rest))
+          (placed old.bytes old.places.items q)) (sym split);
       inside = c.place_one.ensures.inside;
       longer = longer_both c.loop-i.invariant.longer c.place_one.ensures.longer;
     }

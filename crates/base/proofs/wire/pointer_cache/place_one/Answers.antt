@@ -1,6 +1,6 @@
 use Rattle.std.proofs.Common.{◌≡◌, ◌∙◌, ℕ, List, sym, subst}
 use Rattle.std.specs.Prelude.{All, slice_set}
-use Rattle.base.specs.Pointers.{IsInside}
+use Rattle.base.specs.reading.Pointers.{IsInside}
 use Rattle.base.proofs.reading.CacheLemmas.{is_put, put_inside, put_others, same_inside, set_inside, set_others}
 use Rattle.base.proofs.wire.pointer_cache.place_one.Goals as goal
 use Rattle.base.proofs.wire.pointer_cache.place_one.Goals.{in-Lent+in_ok-place-in-Lent, in-Copied}
@@ -22,13 +22,15 @@ returns-clause-others c = λ q other.
       | in-Lent+in_ok-place-in-Lent w ↦
           let labels = w.in-Lent.labels.now in
           let place = w.in_ok-place-in-Lent.place in
-          let put = is_put copied old.places.items reached t place c.in_ok-reach.ensures.same c.in_ok-reach.ensures.there w.in_ok-place-in-Lent.ensures.place in
+          let put = is_put copied old.places.items reached t place c.in_ok-reach.ensures.same
+          c.in_ok-reach.ensures.there w.in_ok-place-in-Lent.ensures.place in
           rw (w.copies-is, w.place-is, w.in_ok-place-in-Lent.ensures.ok)
           (put_others copied labels old.places.items (slice_set reached t place) t put c.requires.inside q apart)
       | in-Copied w ↦
           let there = rw w.in-Copied.is at c.requires.there in
           rw (w.copies-is, w.place-is)
-          (set_others copied old.places.items reached t w.in-Copied.place c.in_ok-reach.ensures.same c.in_ok-reach.ensures.there there.0 there.1 c.requires.inside q apart)
+          (set_others copied old.places.items reached t w.in-Copied.place c.in_ok-reach.ensures.same
+          c.in_ok-reach.ensures.there there.0 there.1 c.requires.inside q apart)
     ]
 
 pub returns-clause-inside : goal.returns-clause-inside
@@ -41,11 +43,13 @@ returns-clause-inside c =
       | in-Lent+in_ok-place-in-Lent w ↦
           let labels = w.in-Lent.labels.now in
           let place = w.in_ok-place-in-Lent.place in
-          let put = is_put copied old.places.items reached t place c.in_ok-reach.ensures.same c.in_ok-reach.ensures.there w.in_ok-place-in-Lent.ensures.place in
+          let put = is_put copied old.places.items reached t place c.in_ok-reach.ensures.same
+          c.in_ok-reach.ensures.there w.in_ok-place-in-Lent.ensures.place in
           rw (w.copies-is, w.place-is, w.in_ok-place-in-Lent.ensures.ok)
           (put_inside copied labels old.places.items (slice_set reached t place) t put c.requires.inside)
       | in-Copied w ↦
           let there = rw w.in-Copied.is at c.requires.there in
           rw (w.copies-is, w.place-is)
-          (set_inside copied old.places.items reached t w.in-Copied.place c.in_ok-reach.ensures.same c.in_ok-reach.ensures.there there.0 there.1 c.requires.inside)
+          (set_inside copied old.places.items reached t w.in-Copied.place c.in_ok-reach.ensures.same
+          c.in_ok-reach.ensures.there there.0 there.1 c.requires.inside)
     ]

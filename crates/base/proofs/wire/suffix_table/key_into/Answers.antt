@@ -12,5 +12,9 @@ returns-clause-key c =
     let second = c.copy_from_slice-2.ensures.after in
     let four : length c.copy_from_slice.new.self ≡ 4 = ap length first in
     take-put_mid 4 (4 + length wire - 4) front c.copy_from_slice-2.new.self (4 + length wire)
-    (omega (arith, ap length second)) (omega (arith, four, length-append c.copy_from_slice.new.self (drop 4 c.args.room.now)))
+    (omega (arith, ap length second)) (omega (
+      arith,
+      four,
+      length-append c.copy_from_slice.new.self (drop 4 c.args.room.now),
+    ))
     ∙ rw (take_at c.copy_from_slice.new.self (drop 4 c.args.room.now) 4 four, first, second)

@@ -9,10 +9,12 @@ joined : (m a b c d e : List ℕ) → m ++ (a ++ b ++ c ++ d ++ e) ≡ m ++ a ++
 joined m a b c d e =
     sym (append_assoc m (a ++ b ++ c ++ d) e)
     ∙ ap (λ (xs : List ℕ). xs ++ e) (sym (append_assoc m (a ++ b ++ c) d)
-    ∙ ap (λ (xs : List ℕ). xs ++ d) (sym (append_assoc m (a ++ b) c) ∙ ap (λ (xs : List ℕ). xs ++ c) (sym (append_assoc m a b))))
+    ∙ ap (λ (xs : List ℕ). xs ++ d) (sym (append_assoc m (a ++ b) c)
+    ∙ ap (λ (xs : List ℕ). xs ++ c) (sym (append_assoc m a b))))
 
 pub returns-in-SOA : goal.returns-in-SOA
 returns-in-SOA c =
-    c.of_names.ensures ∙ ap (λ (xs : List ℕ). name_octets c.in-SOA.rdata.mname ++ name_octets c.in-SOA.rdata.rname ++ xs) c.number_octets.ensures.bytes
+    c.of_names.ensures ∙ ap (λ (xs : List ℕ).
+    name_octets c.in-SOA.rdata.mname ++ name_octets c.in-SOA.rdata.rname ++ xs) c.number_octets.ensures.bytes
     ∙ joined (name_octets c.in-SOA.rdata.mname ++ name_octets c.in-SOA.rdata.rname) _ _ _ _ _
     ∙ sym (ap canonical_data c.in-SOA.is)

@@ -1,4 +1,4 @@
-use Rattle.base.proofs.TrackLemmas.{tracked_itself}
+use Rattle.base.proofs.reading.TrackLemmas.{tracked_itself}
 use Rattle.base_data.proofs.rdata.RData.read_in_place.Goals as goal
 
 pub returns-then-len-eq0-clause-tracks : goal.returns-then-len-eq0-clause-tracks

@@ -1,7 +1,7 @@
 use Rattle.std.proofs.Common.{refl, sym}
-use Rattle.base.proofs.LawLemmas.{Keeps-same}
-use Rattle.base.proofs.WrittenLemmas.{after-none}
-use Rattle.base.specs.Wire.{state_of}
+use Rattle.base.proofs.writing.LawLemmas.{Keeps-same}
+use Rattle.base.proofs.writing.WrittenLemmas.{after-none}
+use Rattle.base.specs.writing.Wire.{state_of}
 use Rattle.base_data.proofs.rdata.RDataBinEncodable.emit.Goals as goal
 
 pub returns-in-Update0-clause-keeps : goal.returns-in-Update0-clause-keeps

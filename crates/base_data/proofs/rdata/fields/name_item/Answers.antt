@@ -1,5 +1,5 @@
 use Rattle.std.proofs.Common.{Err, ap, sym}
-use Rattle.base.proofs.Giving.{ok_name, no_name}
+use Rattle.base.proofs.texts.Giving.{ok_name, no_name}
 use Rattle.base_data.proofs.rdata.fields.name_item.Goals as goal
 
 pub returns-in-Ok : goal.returns-in-Ok

@@ -7,5 +7,7 @@ returns-then-first_byte-eq43 c = number_signed 32 c.args.item.now (omega (arith,
 
 pub returns : goal.returns
 returns c =
-    let plain : get_or c.args.item.now 0 0 ≢ 43 = λ (e : get_or c.args.item.now 0 0 ≡ 43). omega (arith, c.first_byte.ensures) in
-    rw (c.ok_or.ensures.value, c.ok.ensures.value) (number_parsed 32 c.args.item.now c.parse.result c.parse.ensures.value.0 plain)
+    let plain : get_or c.args.item.now 0 0 ≢ 43 =
+    λ (e : get_or c.args.item.now 0 0 ≡ 43). omega (arith, c.first_byte.ensures) in
+    rw (c.ok_or.ensures.value, c.ok.ensures.value)
+    (number_parsed 32 c.args.item.now c.parse.result c.parse.ensures.value.0 plain)

@@ -10,12 +10,14 @@ loop-rest-init c = cut_none c.args.bytes.now
 pub returns-then-rest-end-clause-value : goal.returns-then-rest-end-clause-value
 returns-then-rest-end-clause-value c =
     let some : 0 < length c.loop-rest.rest.now = grind (arith, nat_tests) in
-    cut_fault c.args.bytes.now c.loop-rest.rest.now (1 + c.from-end.result) c.loop-rest.invariant some (omega arith) (omega arith)
+    cut_fault c.args.bytes.now c.loop-rest.rest.now (1 + c.from-end.result) c.loop-rest.invariant some (omega arith)
+    (omega arith)
 
 pub loop-rest-preserved : goal.loop-rest-preserved
 loop-rest-preserved c =
     let some : 0 < length c.loop-rest.rest.now = grind (arith, nat_tests) in
-    rw take_rest (cut_next c.args.bytes.now c.loop-rest.rest.now (1 + c.from-end.result) c.loop-rest.invariant some (omega arith) (omega arith) (omega arith))
+    rw take_rest (cut_next c.args.bytes.now c.loop-rest.rest.now (1 + c.from-end.result) c.loop-rest.invariant some
+    (omega arith) (omega arith) (omega arith))
 
 pub returns-clause-value : goal.returns-clause-value
 returns-clause-value c =

@@ -12,7 +12,8 @@ returns-in_err-zone c =
     let p = err_from_is_err_and c.from_residual.result c.from_residual.ensures.1 in
     let number = c.in_err-zone.field-0.0.number in
     rw (p.1, p.2) (refusal_comes (IsSent (transfer_asked c.args.id c.args.origin.now c.args.last_soa.now)) number
-    (first_refused (zone_name_of c.args.origin.now) (transfer_of c.args.id c.args.last_soa.now) number c.in_err-zone.ensures) (λ is. refused is))
+    (first_refused (zone_name_of c.args.origin.now)
+    (transfer_of c.args.id c.args.last_soa.now) number c.in_err-zone.ensures) (λ is. refused is))
 
 pub returns-in_err-last : goal.returns-in_err-last
 returns-in_err-last c =
@@ -20,5 +21,7 @@ returns-in_err-last c =
     let number = c.in_err-last.field-0.0.number in
     let zone = c.in_ok-zone.zone in
     rw (p.1, p.2) (refusal_comes (IsSent (transfer_asked c.args.id c.args.origin.now c.args.last_soa.now)) number
-    (next_refused (zone_name_of c.args.origin.now) (transfer_of c.args.id c.args.last_soa.now) number zone c.in_ok-zone.ensures
-    (first_refused (soa_of_text zone c.args.last_soa.now) (λ soa. Ok (transfer_message c.args.id zone soa)) number c.in_err-last.ensures)) (λ is. refused is))
+    (next_refused (zone_name_of c.args.origin.now)
+    (transfer_of c.args.id c.args.last_soa.now) number zone c.in_ok-zone.ensures
+    (first_refused (soa_of_text zone c.args.last_soa.now)
+    (λ soa. Ok (transfer_message c.args.id zone soa)) number c.in_err-last.ensures)) (λ is. refused is))

@@ -10,7 +10,8 @@ use Rattle.capi.proofs.update.built.whole_bytes.Goals as goal
 
 pub returns-then-not-fits_wire-clause-sent : goal.returns-then-not-fits_wire-clause-sent
 returns-then-not-fits_wire-clause-sent c =
-    inl (unfit refl (not_fitting (Fits (message_value c.args.message.now)) c.fits_wire.result c.fits_wire.ensures.fits.1 c.if-not-fits_wire.true))
+    inl (unfit refl (not_fitting (Fits (message_value c.args.message.now)) c.fits_wire.result c.fits_wire.ensures.fits.1
+    c.if-not-fits_wire.true))
 
 pub returns-in_err-bytes-clause-sent : goal.returns-in_err-bytes-clause-sent
 returns-in_err-bytes-clause-sent c =
@@ -21,14 +22,16 @@ pub returns-then-header-clause-sent : goal.returns-then-header-clause-sent
 returns-then-header-clause-sent c =
     let fits : Fits (message_value c.args.message.now) = c.fits_wire.ensures.fits.0 (search rules) in
     let stands : IsHeaderAt c.in_ok-bytes.bytes.items 0 c.in_ok-header.header = search rules in
-    inl (cut refl (part_written (message_value c.args.message.now) c.in_ok-bytes.bytes.items c.in_ok-bytes.ensures.answer
+    inl (cut refl (part_written (message_value c.args.message.now) c.in_ok-bytes.bytes.items
+    c.in_ok-bytes.ensures.answer
     (c.in_ok-bytes.ensures.written fits) c.in_ok-header.header stands c.if-header.true))
 
 pub returns-clause-sent : goal.returns-clause-sent
 returns-clause-sent c =
     let fits : Fits (message_value c.args.message.now) = c.fits_wire.ensures.fits.0 (search rules) in
     let stands : IsHeaderAt c.in_ok-bytes.bytes.items 0 c.in_ok-header.header = search rules in
-    inl (whole refl (all_written (message_value c.args.message.now) c.in_ok-bytes.bytes.items c.in_ok-bytes.ensures.answer
+    inl (whole refl (all_written (message_value c.args.message.now) c.in_ok-bytes.bytes.items
+    c.in_ok-bytes.ensures.answer
     (c.in_ok-bytes.ensures.written fits) c.in_ok-header.header stands c.if-header.false))
 
 pub returns-clause-whole : goal.returns-clause-whole

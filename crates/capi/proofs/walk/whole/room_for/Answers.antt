@@ -1,5 +1,5 @@
 use Rattle.std.proofs.Common.{ap, arith, length, length-append, sym, [], ◌∷◌, ◌≡◌, ◌+◌}
-use Rattle.base.specs.Labels.{wire_of}
+use Rattle.base.specs.names.Labels.{wire_of}
 use Rattle.capi.proofs.WalkLemmas.{names_length, no_names}
 use Rattle.capi.specs.WalkWhole.{octets_of}
 use Rattle.capi.proofs.walk.whole.room_for.Goals as goal

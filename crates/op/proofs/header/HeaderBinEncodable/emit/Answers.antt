@@ -1,6 +1,6 @@
 use Rattle.std.proofs.Common.{ap}
-use Rattle.base.specs.Written.{just}
-use Rattle.base.proofs.WrittenLemmas.{Exactly-same}
+use Rattle.base.specs.writing.Written.{just}
+use Rattle.base.proofs.writing.WrittenLemmas.{Exactly-same}
 use Rattle.op.proofs.header.HeaderBinEncodable.emit.Goals as goal
 
 pub returns-clause-exact : goal.returns-clause-exact

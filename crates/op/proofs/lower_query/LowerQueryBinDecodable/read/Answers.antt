@@ -1,5 +1,5 @@
 use Rattle.std.proofs.lemmas.Result.{err_from_is_err_and}
-use Rattle.base.proofs.TrackLemmas.{bounded_here}
+use Rattle.base.proofs.reading.TrackLemmas.{bounded_here}
 use Rattle.op.proofs.lower_query.LowerQueryBinDecodable.read.Goals as goal
 
 pub returns-in_err-name-clause-tracks : goal.returns-in_err-name-clause-tracks

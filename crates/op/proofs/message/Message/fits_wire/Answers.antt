@@ -2,7 +2,7 @@ use Rattle.std.proofs.Common.{◌≡◌, rules, subst}
 use Rattle.std.specs.Option.{option_copied}
 use Rattle.std.specs.Prelude.{All}
 use Rattle.rr.specs.RecordSays.{KeptRecord}
-use Rattle.op.proofs.EmittedLemmas.{raised_edns}
+use Rattle.op.proofs.writing.EmittedLemmas.{raised_edns}
 use Rattle.op.specs.Message.{MessageValue, message_value}
 use Rattle.op.proofs.message.Message.fits_wire.Goals as goal
 
@@ -16,6 +16,7 @@ returns-then-edns_fits-clause-kept c = λ yes.
       answers = search rules;
       authorities = search rules;
       additionals = search rules;
-      edns = subst (All KeptRecord) (raised_edns m _ seen) (c.edns_fits.ensures.kept (search rules) m.metadata.response_code);
+      edns = subst (All KeptRecord) (raised_edns m _ seen)
+          (c.edns_fits.ensures.kept (search rules) m.metadata.response_code);
       signature = search rules;
     }

@@ -1,9 +1,9 @@
 use Rattle.std.proofs.Common.{◌≡◌, ◌⊎◌, rules, subst}
 use Rattle.std.specs.Prelude.{IfErr}
 use Rattle.base.specs.declared.error.decode_error.DecodeError.TheVariants as faults
-use Rattle.base.specs.Reader.{Reader}
+use Rattle.base.specs.reading.Reader.{Reader}
 use Rattle.op.specs.Fault.{IsMessageFault}
-use Rattle.op.proofs.BufferLemmas.{begins, begins_with, read_fits}
+use Rattle.op.proofs.reading.BufferLemmas.{begins, begins_with, read_fits}
 use Rattle.op.proofs.message.Message.from_vec.Goals as goal
 
 pub returns-clause-found : goal.returns-clause-found

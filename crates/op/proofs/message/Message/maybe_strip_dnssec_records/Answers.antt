@@ -8,4 +8,5 @@ use Rattle.op.proofs.message.Message.maybe_strip_dnssec_records.Goals as goal
 pub returns : goal.returns
 returns c =
     let first = ap (λ (qs : List Query). slice_get qs 0) (sym c.deref.ensures.value) ∙ sym c.in-Some.ensures.value in
-    strips (message_value c.args.self) c.if-query_has_dnssec_ok.false first c.query_type-asked.ensures c.keep_for_all.ensures c.keep_for_all-2.ensures c.keep_for_all-3.ensures
+    strips (message_value c.args.self) c.if-query_has_dnssec_ok.false first c.query_type-asked.ensures
+    c.keep_for_all.ensures c.keep_for_all-2.ensures c.keep_for_all-3.ensures

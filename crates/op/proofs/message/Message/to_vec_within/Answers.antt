@@ -1,7 +1,7 @@
 use Rattle.std.proofs.Common.{◌∙◌, ap, rules}
-use Rattle.base.specs.State.{State}
+use Rattle.base.specs.writing.State.{State}
 use Rattle.op.specs.Message.{message_value}
-use Rattle.op.proofs.AnswerLemmas.{new_answer, new_of}
+use Rattle.op.proofs.writing.AnswerLemmas.{new_answer, new_of}
 use Rattle.op.proofs.message.Message.to_vec_within.Goals as goal
 
 pub returns-clause-answer : goal.returns-clause-answer

@@ -10,11 +10,17 @@ pub loop-query-preserved : goal.loop-query-preserved
 loop-query-preserved c =
     let i = c.loop-query.query-index in
     let yes : IsTrue c.query_fits.result = search rules in (
-      All-more FitsQuery c.args.queries.now i c.query-item.result c.loop-query-test.true c.loop-query.invariant.0 (subst FitsQuery c.query-item.is (c.query_fits.ensures.fits.0 yes)),
-      All-more QueryKept c.args.queries.now i c.query-item.result c.loop-query-test.true c.loop-query.invariant.1 (subst QueryKept c.query-item.is (c.query_fits.ensures.kept yes)),
+      All-more FitsQuery c.args.queries.now i c.query-item.result c.loop-query-test.true c.loop-query.invariant.0
+          (subst FitsQuery c.query-item.is (c.query_fits.ensures.fits.0 yes)),
+      All-more QueryKept c.args.queries.now i c.query-item.result c.loop-query-test.true c.loop-query.invariant.1
+          (subst QueryKept c.query-item.is (c.query_fits.ensures.kept yes)),
     )
 
 pub returns : goal.returns
 returns c =
     let whole = take_all c.loop-query.query-index c.args.queries.now c.loop-query-test.false in
-    record { fits = (λ _. subst (All FitsQuery) whole c.loop-query.invariant.0, λ _. search rules); kept = λ _. subst (All QueryKept) whole c.loop-query.invariant.1 }
+    record {
+      fits = (λ _. subst (All FitsQuery) whole c.loop-query.invariant.0, λ _. search rules);
+      kept =
+          λ _. subst (All QueryKept) whole c.loop-query.invariant.1;
+    }

@@ -8,7 +8,8 @@ returns c = record {
     λ yes. let class = c.class_fits.ensures.0 yes in
         record {
           absolute = search rules;
-          type_reads = reads_type _ _ _ _ _ c.ne.ensures c.if-ne.false c.from-2.ensures c.from.ensures (λ _. c.args.query.now.query_type);
+          type_reads = reads_type _ _ _ _ _ c.ne.ensures c.if-ne.false c.from-2.ensures c.from.ensures
+              (λ _. c.args.query.now.query_type);
           class_reads = class.0;
           narrow = class.1;
         },

@@ -4,4 +4,5 @@ use Rattle.op.specs.Fits.{FitsIn}
 use Rattle.op.proofs.message.fits_wire.records_fit.Given as goal
 
 abbrev pub invariant-loop-entry : goal.invariant-loop-entry
-invariant-loop-entry l = let seen = take l.entry-index l.records in All (FitsIn l.among_additionals l.op_code) seen × All KeptRecord seen
+invariant-loop-entry l = let seen = take l.entry-index l.records in
+    All (FitsIn l.among_additionals l.op_code) seen × All KeptRecord seen

@@ -1,6 +1,6 @@
 use Rattle.op.specs.Query.{query_written}
 use Rattle.rr.specs.Record.{record_written}
-use Rattle.op.proofs.PartLemmas.{no_fewer}
+use Rattle.op.proofs.writing.PartLemmas.{no_fewer}
 use Rattle.op.proofs.message.laws.a_larger_limit_keeps_no_fewer.Goals as goal
 
 pub returns-clause-records : goal.returns-clause-records

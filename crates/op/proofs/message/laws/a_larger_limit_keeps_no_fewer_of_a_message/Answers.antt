@@ -1,5 +1,5 @@
 use Rattle.op.specs.Query.{query_written}
-use Rattle.op.proofs.PartLemmas.{answers_grow, no_fewer}
+use Rattle.op.proofs.writing.PartLemmas.{answers_grow, no_fewer}
 use Rattle.op.proofs.message.laws.a_larger_limit_keeps_no_fewer_of_a_message.Goals as goal
 
 pub returns-clause-queries : goal.returns-clause-queries

@@ -1,6 +1,6 @@
-use Rattle.op.proofs.MessageFaults.{refuses_message, refuses_questions}
-use Rattle.op.proofs.MessageStands.{one_message, reads_message, reads_questions, reads_section}
-use Rattle.op.proofs.SectionFaults.{refuses_section}
+use Rattle.op.proofs.reading.MessageFaults.{refuses_message, refuses_questions}
+use Rattle.op.proofs.reading.MessageStands.{one_message, reads_message, reads_questions, reads_section}
+use Rattle.op.proofs.reading.SectionFaults.{refuses_section}
 use Rattle.op.proofs.message.laws.reading_is_the_message_word.Goals as goal
 
 pub returns-clause-word : goal.returns-clause-word

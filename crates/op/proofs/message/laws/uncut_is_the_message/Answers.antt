@@ -1,4 +1,4 @@
-use Rattle.op.proofs.UncutLemmas.{uncut_written}
+use Rattle.op.proofs.writing.UncutLemmas.{uncut_written}
 use Rattle.op.proofs.message.laws.uncut_is_the_message.Goals as goal
 
 pub returns : goal.returns

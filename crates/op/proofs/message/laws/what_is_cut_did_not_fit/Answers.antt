@@ -1,4 +1,4 @@
-use Rattle.base.proofs.FittingLemmas.{Fits-cut}
+use Rattle.base.proofs.writing.FittingLemmas.{Fits-cut}
 use Rattle.op.specs.Query.{query_written}
 use Rattle.rr.specs.Record.{record_written}
 use Rattle.op.proofs.message.laws.what_is_cut_did_not_fit.Goals as goal

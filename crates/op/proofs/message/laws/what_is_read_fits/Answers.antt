@@ -1,5 +1,5 @@
-use Rattle.op.proofs.ReadFits.{message_fits}
-use Rattle.op.proofs.UncutLemmas.{uncut_same}
+use Rattle.op.proofs.reading.ReadFits.{message_fits}
+use Rattle.op.proofs.writing.UncutLemmas.{uncut_same}
 use Rattle.op.proofs.message.laws.what_is_read_fits.Goals as goal
 
 pub returns-clause-fits : goal.returns-clause-fits

@@ -1,4 +1,4 @@
-use Rattle.op.proofs.CutOf.{written_is_cut}
+use Rattle.op.proofs.writing.CutOf.{written_is_cut}
 use Rattle.op.proofs.message.laws.what_is_written_is_a_cut.Goals as goal
 
 pub returns : goal.returns

@@ -1,11 +1,11 @@
 use Rattle.std.proofs.Common.{◌≡◌, ◌+◌, ◌<◌, ◌^◌, false, Ok, Result, refl, sym, rules, arith}
 use Rattle.std.proofs.Math.Bool.{or-false}
 use Rattle.std.specs.Option.{option_copied}
-use Rattle.base.proofs.LawLemmas.{Keeps-same}
-use Rattle.base.specs.Wire.{state_of}
+use Rattle.base.proofs.writing.LawLemmas.{Keeps-same}
+use Rattle.base.specs.writing.Wire.{state_of}
 use Rattle.base.specs.declared.error.proto_error.ProtoError.{ProtoError}
-use Rattle.op.proofs.FrontLemmas.{none_written, one_item}
-use Rattle.op.proofs.RunLemmas.{goes, stops}
+use Rattle.op.proofs.writing.FrontLemmas.{none_written, one_item}
+use Rattle.op.proofs.writing.RunLemmas.{goes, stops}
 use Rattle.op.specs.Composition.{AddsCounts, CountsItems, WritesItems}
 use Rattle.op.specs.Fits.{as_list}
 use Rattle.op.specs.declared.message.writing.Written.{Written}
@@ -54,5 +54,6 @@ returns-in_err-written g c =
 pub returns : goal.returns
 returns g c =
     let ran = counted g (goal.at.returns g c).After-emit_all _ c.in_ok-written.ensures in
-    let both = goes c.in_ok-written.written _ c.emit_all.ensures.keeps ran (Keeps-same _ _ refl, (c.add_counts.ensures, refl)) in
+    let both = goes c.in_ok-written.written _ c.emit_all.ensures.keeps ran
+    (Keeps-same _ _ refl, (c.add_counts.ensures, refl)) in
     record { keeps = both.0; run = both.1 }

@@ -8,4 +8,5 @@ returns-in-Ok c = subst (λ answer. CountsItems answer c.narrow.result) (sym c.i
 pub returns-in-NotAllRecordsWritten : goal.returns-in-NotAllRecordsWritten
 returns-in-NotAllRecordsWritten c =
     let is = c.in-Err.is ∙ ap Err c.in-NotAllRecordsWritten.is in
-    subst (λ answer. CountsItems answer c.narrow-in-NotAllRecordsWritten.result) (sym is) c.narrow-in-NotAllRecordsWritten.ensures
+    subst (λ answer. CountsItems answer c.narrow-in-NotAllRecordsWritten.result)
+    (sym is) c.narrow-in-NotAllRecordsWritten.ensures

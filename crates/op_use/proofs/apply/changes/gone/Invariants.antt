@@ -2,9 +2,10 @@ use Rattle.base.specs.RrKey.{key_cmp}
 use Rattle.base.specs.declared.rr_key.RrKey.{RrKey}
 use Rattle.op_use.proofs.apply.changes.gone.Given as goal
 use Rattle.op_use.specs.MapUpdates.{has_key}
-use Rattle.std.proofs.Common.{None, Some, cond, is_some, not, take, ◌&&◌, ◌≡◌}
+use Rattle.std.proofs.Common.{None, Some, cond, is_some, take, ◌≡◌}
 use Rattle.std.specs.BTreeMap.{get}
 
 -- of the keys so far, those without a set are here
 abbrev pub invariant-loop-key : goal.invariant-loop-key
-invariant-loop-key l = (q : RrKey) → get key_cmp l.gone q ≡ cond (has_key q (take l.key-index l.keys) && not (is_some (get key_cmp l.now q))) (Some None) None
+invariant-loop-key l = (q : RrKey) → get key_cmp l.gone q
+    ≡ cond (has_key q (take l.key-index l.keys)) (cond (is_some (get key_cmp l.now q)) None (Some None)) None

@@ -1,4 +1,5 @@
-use Rattle.op_use.proofs.AppliedLemmas.{append_applies, create_applies, delete_data_applies, delete_name_applies, delete_set_applies, maps_are_zones, swap_applies}
+use Rattle.op_use.proofs.AppliedLemmas.{append_applies, create_applies, delete_data_applies, delete_name_applies}
+use Rattle.op_use.proofs.AppliedLemmas.{delete_set_applies, maps_are_zones, swap_applies}
 use Rattle.op_use.proofs.apply.laws.built_updates_apply_as_named.Goals as goal
 
 pub returns : goal.returns

@@ -1,15 +1,10 @@
-use Rattle.base.specs.RrKey.{key_cmp}
-use Rattle.base.specs.declared.rr_key.RrKey.{RrKey}
+use Rattle.op_use.proofs.SettleSteps.{IsChanging}
 use Rattle.op_use.proofs.apply.outcome.change_all.Given as goal
-use Rattle.std.proofs.Common.{is_some, length, true, unwrap_or, ◌≡◌}
-use Rattle.std.specs.BTreeMap.{get}
+use Rattle.std.proofs.Common.{length}
 
--- the changes that are left make of the map what all of them do, and are of sets that it has
+-- the changes that are left are to be made
 abbrev pub invariant-loop-key : goal.invariant-loop-key
-invariant-loop-key l = record {
-  left : (q : RrKey) → unwrap_or (get key_cmp l.changed q) (get key_cmp l.sets q) ≡ unwrap_or (get key_cmp l.fn.changed q) (get key_cmp l.fn.sets q);
-  there : (q : RrKey) → is_some (get key_cmp l.changed q) ≡ true → is_some (get key_cmp l.sets q) ≡ true;
-}
+invariant-loop-key l = IsChanging l.fn.changed l.changed l.fn.sets l.sets
 
 abbrev pub decreases-loop-key : goal.decreases-loop-key
 decreases-loop-key l = length l.changed.entries

@@ -5,4 +5,5 @@ use Rattle.std.specs.List.{list_any}
 
 -- what is left decides
 abbrev pub invariant-loop-known : goal.invariant-loop-known
-invariant-loop-known l = list_any (has_data_of l.entry) (drop l.known-index l.records) ≡ list_any (has_data_of l.entry) l.records
+invariant-loop-known l = list_any (has_data_of l.entry) (drop l.known-index l.records) ≡ list_any
+    (has_data_of l.entry) l.records

@@ -10,7 +10,8 @@ use Rattle.std.specs.Map.{keys_of}
 -- what is left of the owner's keys decides
 abbrev pub invariant-loop-key : goal.invariant-loop-key
 invariant-loop-key g l =
-    (list_any (passes l.owner (λ (k : RrKey). not (l.is_beside && is_cname k.record_type))) (keys_of (take_while (owned_entry l.owner) l.key-iterator))
+    (list_any (passes l.owner (λ (k : RrKey). not (l.is_beside && is_cname k.record_type)))
+    (keys_of (take_while (owned_entry l.owner) l.key-iterator))
     ≡ list_any (passes l.owner (λ (k : RrKey). not (l.is_beside && is_cname k.record_type))) (keys l.sets)) ×
     (goal.iterator-loop-key g).can_next l.key-iterator ×
     (goal.iterator-loop-key g).is_finite l.key-iterator

@@ -12,9 +12,12 @@ returns-clause-built c = grind (arith, common_steps)
 
 pub returns-clause-fits : goal.returns-clause-fits
 returns-clause-fits c =
-    of_built (λ m. IsSendableKey c.args.origin c.args.entry.name (type_of_data c.args.entry.rdata) c.args.entry.dns_class
-    → Fits m) _ c.update.result (returns-clause-built c) (delete_rrset_fits c.args.id c.args.entry c.args.origin c.args.use_edns)
+    of_built (λ m. IsSendableKey c.args.origin c.args.entry.name
+    (type_of_data c.args.entry.rdata) c.args.entry.dns_class
+    → Fits m) _ c.update.result (returns-clause-built c)
+    (delete_rrset_fits c.args.id c.args.entry c.args.origin c.args.use_edns)
 
 pub returns-clause-means : goal.returns-clause-means
 returns-clause-means c =
-    of_built (λ m. DeletesSet c.args.entry c.args.origin m) _ c.update.result (returns-clause-built c) (deletes_set c.args.id c.args.entry c.args.origin c.args.use_edns)
+    of_built (λ m. DeletesSet c.args.entry c.args.origin m) _ c.update.result (returns-clause-built c)
+    (deletes_set c.args.id c.args.entry c.args.origin c.args.use_edns)

@@ -11,4 +11,5 @@ loop-record-preserved c =
     let ys = c.loop-record.record-items in
     let i = c.loop-record.record-index in
     ap (λ (x : Record RData). set ys i (record x { dns_class = classes.NONE; ttl = 0 })) (sym c.record-item.is)
-    ∙ map_over_more (untimed_in classes.NONE) _ _ i c.record-item.result (search arith) c.loop-record.invariant c.record-item.is
+    ∙ map_over_more (untimed_in classes.NONE) _ _ i c.record-item.result
+    (search arith) c.loop-record.invariant c.record-item.is

@@ -5,4 +5,5 @@ use Rattle.op_use.proofs.update_message.builders.with_class_none.Given as goal
 
 -- those so far are changed
 abbrev pub invariant-loop-record : goal.invariant-loop-record
-invariant-loop-record l = l.record-items ≡ map (untimed_in classes.NONE) (take l.record-index l.fn.records.items) ++ drop l.record-index l.fn.records.items
+invariant-loop-record l = l.record-items ≡ map (untimed_in classes.NONE)
+    (take l.record-index l.fn.records.items) ++ drop l.record-index l.fn.records.items

@@ -18,4 +18,5 @@ returns-then-not-went-clause-ok c =
     } in
     let none = sym c.in_ok-went.ensures.went ∙ c.if-not-went.true in
     ap of (c.in_ok-went.ensures.ok ∙ without_none c.args.entries.now c.self.inside.records none)
-    ∙ sym (set_stays c.args.entries.now (of c.self.inside.records) none) ∙ ap (without_data c.args.entries.now) c.self.view_is
+    ∙ sym (set_stays c.args.entries.now (of c.self.inside.records) none)
+    ∙ ap (without_data c.args.entries.now) c.self.view_is

@@ -18,13 +18,15 @@ returns-then-place-len-clause-place c =
     let len : c.len.result ≡ length c.args.records.now.items = search rules in
     let last : c.args.place ≡ length c.args.records.now.items = c.if-place-len.true ∙ len in
     subst (IsFirstAt r.rdata c.push_reserved.new.self.items) (sym last)
-    (subst (λ (ys : List (Record RData)). IsFirstAt r.rdata ys (length rs)) (sym c.push_reserved.ensures.items) (first_after r rs (c.requires.place.none last)))
+    (subst (λ (ys : List (Record RData)). IsFirstAt r.rdata ys (length rs)) (sym c.push_reserved.ensures.items)
+    (first_after r rs (c.requires.place.none last)))
 
 pub returns-then-is_entry-clause-value : goal.returns-then-is_entry-clause-value
 returns-then-is_entry-clause-value c =
     let len : c.len.result ≡ length c.args.records.now.items = search rules in
     let inside : c.args.place < length c.args.records.now.items = omega arith in
-    entered_not c.args.entry c.args.records.now.items c.args.place c.index.result.now (c.requires.place.known inside) c.index.ensures
+    entered_not c.args.entry c.args.records.now.items c.args.place c.index.result.now
+    (c.requires.place.known inside) c.index.ensures
     (sym c.is_entry.ensures ∙ c.if-is_entry.true)
 
 pub returns-then-is_entry-clause-place : goal.returns-then-is_entry-clause-place
@@ -38,7 +40,8 @@ returns-clause-value c =
     let len : c.len.result ≡ length c.args.records.now.items = search rules in
     let inside : c.args.place < length c.args.records.now.items = omega arith in
     ap (λ (ys : List (Record RData)). (true, ys)) c.set_at.ensures
-    ∙ entered_at c.args.entry c.args.records.now.items c.args.place c.index.result.now (c.requires.place.known inside) c.index.ensures
+    ∙ entered_at c.args.entry c.args.records.now.items c.args.place c.index.result.now
+    (c.requires.place.known inside) c.index.ensures
     (sym c.is_entry.ensures ∙ c.if-is_entry.false)
 
 pub returns-clause-place : goal.returns-clause-place

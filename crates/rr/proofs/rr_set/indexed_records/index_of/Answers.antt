@@ -15,8 +15,11 @@ loop-place-preserved c =
     let updates = c.in_ok-insert.ensures.updates in
     let inside : c.loop-place.place < length c.args.records.now.items = omega arith in
     let none = none_of c.in_ok-insert.field-0 (sym c.is_some.ensures ∙ c.if-is_some.false) in
-    let len : c.loop-place.place ≡ length (take c.loop-place.place c.args.records.now.items) = omega (arith, length-take {A = Record RData}) in
-    let is = take_more rs i c.index.result.now inside ∙ ap (λ (x : Record RData). take i rs ++ x ∷ []) (sym c.index.ensures) in
-    pushed m n (take i rs) (take (i + 1) rs) c.index.result.now ks i c.loop-place.invariant c.in_ok-key.ensures (sym c.in_ok-insert.ensures.old ∙ none)
+    let len : c.loop-place.place ≡ length (take c.loop-place.place c.args.records.now.items) =
+    omega (arith, length-take {A = Record RData}) in
+    let is = take_more rs i c.index.result.now inside
+    ∙ ap (λ (x : Record RData). take i rs ++ x ∷ []) (sym c.index.ensures) in
+    pushed m n (take i rs) (take (i + 1) rs) c.index.result.now ks i c.loop-place.invariant c.in_ok-key.ensures
+    (sym c.in_ok-insert.ensures.old ∙ none)
     (place_here ks m n _ updates) (place_others ks m n _ updates)
     len is

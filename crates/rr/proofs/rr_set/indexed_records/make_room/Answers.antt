@@ -5,7 +5,8 @@ use Rattle.std.specs.declared.alloc.Global.{Global}
 use Rattle.base_data.specs.declared.rdata.RData.{RData}
 use Rattle.rr.specs.DataIndex.{IsIndexOf, place_at}
 use Rattle.rr.specs.declared.record.Record.{Record}
-use Rattle.rr.proofs.IndexLemmas.{index_set, index_wider, joined_after, joined_at, none_of, place_here, place_is, place_known, place_last, place_others, pushed}
+use Rattle.rr.proofs.IndexLemmas.{index_set, index_wider, joined_after, joined_at, none_of, place_here, place_is}
+use Rattle.rr.proofs.IndexLemmas.{place_known, place_last, place_others, pushed}
 use Rattle.rr.proofs.rr_set.indexed_records.make_room.Goals as goal
 
 pub returns-in-Some-place_of-clause-joined : goal.returns-in-Some-place_of-clause-joined
@@ -25,7 +26,8 @@ returns-then-is_none-clause-index c =
     let n = c.insert.new.self in
     let ks = c.in_ok-key.key.items in
     let there : IsIndexOf (place_at c.in-Some.places.value) c.args.records.now.items = search rules in
-    let indexed = subst (λ (t : BTreeMap (Vec ℕ Global) ℕ). IsIndexOf (place_at t) rs) (sym c.deref_mut.ensures.value) there in
+    let indexed = subst (λ (t : BTreeMap (Vec ℕ Global) ℕ). IsIndexOf (place_at t) rs)
+    (sym c.deref_mut.ensures.value) there in
     let free = none_of c.in_ok-insert.field-0 (c.is_none.ensures ∙ ap not c.if-is_none.true) in
     index_wider (place_at m) (place_at n) rs ks indexed (sym c.in_ok-insert.ensures.old ∙ free)
     (place_others ks m n _ c.in_ok-insert.ensures.updates)
@@ -39,14 +41,17 @@ returns-then-is_none-clause-joined c =
     let ks = c.in_ok-key.key.items in
     let updates = c.in_ok-insert.ensures.updates in
     let there : IsIndexOf (place_at c.in-Some.places.value) c.args.records.now.items = search rules in
-    let indexed = subst (λ (t : BTreeMap (Vec ℕ Global) ℕ). IsIndexOf (place_at t) rs) (sym c.deref_mut.ensures.value) there in
+    let indexed = subst (λ (t : BTreeMap (Vec ℕ Global) ℕ). IsIndexOf (place_at t) rs)
+    (sym c.deref_mut.ensures.value) there in
     let free = none_of c.in_ok-insert.field-0 (c.is_none.ensures ∙ ap not c.if-is_none.true) in
     let len : c.len-place.result ≡ length c.args.records.now.items = search rules in
     pushed m n rs _ r ks c.len-place.result indexed c.in_ok-key.ensures (sym c.in_ok-insert.ensures.old ∙ free)
-    (place_here ks m n _ updates) (place_others ks m n _ updates) len (sym (joined_after r rs c.in_default-place_of.ensures))
+    (place_here ks m n _ updates) (place_others ks m n _ updates) len
+    (sym (joined_after r rs c.in_default-place_of.ensures))
 
 pub returns-in-Some-place_of-clause-place : goal.returns-in-Some-place_of-clause-place
-returns-in-Some-place_of-clause-place c = place_known c.args.entry.now c.args.records.now.items c.in-Some-place_of.place c.in-Some-place_of.ensures
+returns-in-Some-place_of-clause-place c =
+    place_known c.args.entry.now c.args.records.now.items c.in-Some-place_of.place c.in-Some-place_of.ensures
 
 pub returns-in-Some-place_of-clause-room : goal.returns-in-Some-place_of-clause-room
 returns-in-Some-place_of-clause-room c = λ last. absurd (omega (arith, last, c.in-Some-place_of.ensures.inside))
@@ -89,7 +94,9 @@ pub returns-in_default-clause-index : goal.returns-in_default-clause-index
 returns-in_default-clause-index c = c.take.ensures.missing _
 
 pub returns-then-is_none-clause-room : goal.returns-then-is_none-clause-room
-returns-then-is_none-clause-room c = λ last. omega (arith, c.in_ok-reserve.ensures.ok, c.reserve.ensures.len, c.len-place.ensures)
+returns-then-is_none-clause-room c = λ last. omega
+    (arith, c.in_ok-reserve.ensures.ok, c.reserve.ensures.len, c.len-place.ensures)
 
 pub returns-else-is_none-clause-room : goal.returns-else-is_none-clause-room
-returns-else-is_none-clause-room c = λ last. omega (arith, c.in_ok-reserve.ensures.ok, c.reserve.ensures.len, c.len-place.ensures)
+returns-else-is_none-clause-room c = λ last. omega
+    (arith, c.in_ok-reserve.ensures.ok, c.reserve.ensures.len, c.len-place.ensures)

@@ -8,4 +8,5 @@ pub returns-clause-ok : goal.returns-clause-ok
 returns-clause-ok c =
     let old = c.args.records.now.items in
     let none : has_entry c.args.entry old ≡ false = search rules in
-    ap (λ (rs : List (Record RData)). (true, rs)) (search rules) ∙ sym (ap (λ b. if b then (false, old) else (true, joined c.args.entry old)) none)
+    ap (λ (rs : List (Record RData)). (true, rs)) (search rules)
+    ∙ sym (ap (λ b. if b then (false, old) else (true, joined c.args.entry old)) none)

@@ -8,5 +8,7 @@ use Rattle.std.specs.Borrow.{Bor}
 
 pub returns : goal.returns
 returns c = c.is_ok.ensures.value
-    ∙ searched c.args.sorted.now c.args.rdata.now c.requires c.fits.ensures c.binary_search_by.result c.binary_search_by.ensures.bound
-    (c.binary_search_by.ensures.position (λ (d : Bor RData). data_cmp d.now c.args.rdata.now) (always_returns_same _ _ _ (λ a r g k. search rules)))
+    ∙ searched c.args.sorted.now c.args.rdata.now c.requires c.fits.ensures c.binary_search_by.result
+    c.binary_search_by.ensures.bound
+    (c.binary_search_by.ensures.position (λ (d : Bor RData). data_cmp d.now c.args.rdata.now)
+    (always_returns_same _ _ _ (λ a r g k. search rules)))

@@ -9,4 +9,5 @@ set_alone (x ∷ []) r one some = refl
 set_alone (x ∷ y ∷ rs) r one some = absurd (omega arith)
 
 pub returns-else-is_empty-clause-ok : goal.returns-else-is_empty-clause-ok
-returns-else-is_empty-clause-ok c = c.set_at.ensures ∙ set_alone c.args.records.now.items c.args.entry c.requires (search rules)
+returns-else-is_empty-clause-ok c = c.set_at.ensures
+    ∙ set_alone c.args.records.now.items c.args.entry c.requires (search rules)

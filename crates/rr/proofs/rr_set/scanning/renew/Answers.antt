@@ -16,7 +16,8 @@ loop-place-init c =
     )
 
 pub set_at-requires : goal.set_at-requires
-set_at-requires c = within_first _ _ _ (c.in-Some.place, c.in-Some.copy) c.in-Some.ensures.steps.0 c.loop-place.invariant.1
+set_at-requires c = within_first _ _ _ (c.in-Some.place, c.in-Some.copy) c.in-Some.ensures.steps.0
+    c.loop-place.invariant.1
 
 pub loop-place-preserved : goal.loop-place-preserved
 loop-place-preserved c =

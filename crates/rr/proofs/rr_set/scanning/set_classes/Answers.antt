@@ -10,4 +10,5 @@ loop-entry-preserved c =
     let i = c.loop-entry.entry-index in
     let below : c.loop-entry.entry-index < length c.deref_mut-entry-items.result.now = omega arith in
     ap (λ (x : Record RData). set ys i (record x { dns_class = c.args.dns_class })) (sym c.entry-item.is)
-    ∙ map_over_more (λ (r : Record RData). record r { dns_class = c.args.dns_class }) _ _ i c.entry-item.result (search arith) c.loop-entry.invariant c.entry-item.is
+    ∙ map_over_more (λ (r : Record RData). record r { dns_class = c.args.dns_class }) _ _ i c.entry-item.result
+    (search arith) c.loop-entry.invariant c.entry-item.is

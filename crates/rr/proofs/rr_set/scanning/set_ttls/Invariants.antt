@@ -5,4 +5,5 @@ use Rattle.rr.proofs.rr_set.scanning.set_ttls.Given as goal
 
 -- those so far have the new TTL
 abbrev pub invariant-loop-entry : goal.invariant-loop-entry
-invariant-loop-entry l = l.entry-items ≡ map (λ (r : Record RData). record r { ttl = l.ttl }) (take l.entry-index l.fn.records.items) ++ drop l.entry-index l.fn.records.items
+invariant-loop-entry l = l.entry-items ≡ map (λ (r : Record RData). record r { ttl = l.ttl })
+    (take l.entry-index l.fn.records.items) ++ drop l.entry-index l.fn.records.items

@@ -9,9 +9,12 @@ use Rattle.std.specs.List.{list_any}
 
 pub returns-in-len1-clause-ok : goal.returns-in-len1-clause-ok
 returns-in-len1-clause-ok c = c.take_data.ensures
-    ∙ without_only c.entry-item.result c.args.entries.now c.args.records.now.items c.entry-item.is c.in-len1.len_at_least c.in-len1.len_below
+    ∙ without_only c.entry-item.result c.args.entries.now c.args.records.now.items c.entry-item.is
+    c.in-len1.len_at_least c.in-len1.len_below
 
 pub returns-clause-ok : goal.returns-clause-ok
 returns-clause-ok c =
-    filter_same _ (λ (x : Record RData). not (list_any (λ (d : Bor RData). same_data x.rdata d.now) c.in_ok-data.data.items)) _ (λ x b f' k. search rules) _ _ c.retain.ensures.filtered
+    filter_same _ (λ (x : Record RData). not (list_any
+    (λ (d : Bor RData). same_data x.rdata d.now) c.in_ok-data.data.items)) _
+    (λ x b f' k. search rules) _ _ c.retain.ensures.filtered
     ∙ without_sorted c.in_ok-data.data.items c.args.entries.now c.args.records.now.items c.in_ok-data.ensures

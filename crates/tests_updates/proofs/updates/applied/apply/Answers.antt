@@ -3,4 +3,5 @@ use Rattle.tests_updates.proofs.updates.applied.apply.Goals as goal
 use Rattle.std.proofs.Common.{sym, ◌∙◌}
 
 pub apply_update-requires : goal.apply_update-requires
-apply_update-requires c = parsed_map c.in_ok-name.sets c.in_ok-name.ensures.kept (sym c.are_sets_in.ensures ∙ c.if-not-are_sets_in.false)
+apply_update-requires c = parsed_map c.in_ok-name.sets c.in_ok-name.ensures.kept
+    (sym c.are_sets_in.ensures ∙ c.if-not-are_sets_in.false)

@@ -1,7 +1,7 @@
 use Rattle.std.proofs.Common.{ap, refl, ◌∙◌}
 use Rattle.std.proofs.lemmas.List.{map-append, take_all, take_more}
 use Rattle.std.proofs.lemmas.Result.{IfOk-from_err}
-use Rattle.base.specs.Tokens.{texts}
+use Rattle.base.specs.texts.Tokens.{texts}
 use Rattle.txt.proofs.zone.context.texts_of.Goals as goal
 
 pub returns-in_err-push : goal.returns-in_err-push

@@ -1,5 +1,5 @@
 use Rattle.std.proofs.Common.{◌≡◌, map, take}
-use Rattle.base.specs.Tokens.{texts}
+use Rattle.base.specs.texts.Tokens.{texts}
 use Rattle.txt.proofs.zone.context.texts_of.Given as goal
 
 abbrev pub invariant-loop-item : goal.invariant-loop-item

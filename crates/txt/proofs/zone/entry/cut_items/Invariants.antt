@@ -1,6 +1,6 @@
 use Rattle.std.specs.Prelude.{◌≡◌, [], length}
-use Rattle.base.specs.TokenList.{symbols}
-use Rattle.base.specs.Tokens.{texts}
+use Rattle.base.specs.texts.TokenList.{symbols}
+use Rattle.base.specs.texts.Tokens.{texts}
 use Rattle.txt.specs.Entries.{items_after}
 use Rattle.txt.proofs.zone.entry.cut_items.Given as goal
 

@@ -20,18 +20,25 @@ record MayGoIn (keys : List (RrKey × ⊤)) (es : KeyedRecords) (r : Record RDat
   pub soas : KnowsSoas keys (es ++ (record_key r, r) ∷ [])
   pub sets : sets_with (gathered es) r ≡ Ok (gathered (es ++ (record_key r, r) ∷ []))
 
-noted : (soas new : List (RrKey × ⊤)) (es : KeyedRecords) (r : Record RData) → KnowsSoas soas es → is_soa (type_of_data r.rdata) ≡ true
-    → is_some (lookup (is_at (key_cmp (record_key r))) soas) ≡ false → new ≡ insert_entry key_cmp soas (record_key r) tt → MayGoIn new es r
+noted : (soas new : List (RrKey × ⊤)) (es : KeyedRecords) (r : Record RData) → KnowsSoas soas es
+    → is_soa (type_of_data r.rdata) ≡ true
+    → is_some (lookup (is_at (key_cmp (record_key r))) soas) ≡ false → new ≡ insert_entry key_cmp soas (record_key r) tt
+    → MayGoIn new es r
 noted soas new es r knows soa unknown is = record {
-  soas = subst (λ (ks : List (RrKey × ⊤)). KnowsSoas ks (es ++ (record_key r, r) ∷ [])) (sym is) (knows_new soas es (record_key r, r) tt knows);
-  sets = added_unknown (gathered es) (record_key r) r refl (sym (knows (record_key r) soa) ∙ unknown) ∙ ap Ok (sym (with_last [] es (record_key r, r)));
+  soas = subst (λ (ks : List (RrKey × ⊤)). KnowsSoas ks (es ++ (record_key r, r) ∷ [])) (sym is)
+      (knows_new soas es (record_key r, r) tt knows);
+  sets = added_unknown (gathered es) (record_key r) r refl (sym (knows (record_key r) soa) ∙ unknown)
+      ∙ ap Ok (sym (with_last [] es (record_key r, r)));
 }
 
-left : (soas new : List (RrKey × ⊤)) (es : KeyedRecords) (r : Record RData) → KnowsSoas soas es → is_soa (type_of_data r.rdata) ≡ false
+left : (soas new : List (RrKey × ⊤)) (es : KeyedRecords) (r : Record RData) → KnowsSoas soas es
+    → is_soa (type_of_data r.rdata) ≡ false
     → new ≡ soas → MayGoIn new es r
 left soas new es r knows none is = record {
-  soas = subst (λ (ks : List (RrKey × ⊤)). KnowsSoas ks (es ++ (record_key r, r) ∷ [])) (sym is) (knows_other soas es (record_key r, r) none knows);
-  sets = added_other (gathered es) (record_key r) r refl none (gathered_in_order es) ∙ ap Ok (sym (with_last [] es (record_key r, r)));
+  soas = subst (λ (ks : List (RrKey × ⊤)). KnowsSoas ks (es ++ (record_key r, r) ∷ [])) (sym is)
+      (knows_other soas es (record_key r, r) none knows);
+  sets = added_other (gathered es) (record_key r) r refl none (gathered_in_order es)
+      ∙ ap Ok (sym (with_last [] es (record_key r, r)));
 }
 
 may_go_in : (c : goal.Joined-eq) → MayGoIn c.if-eq.soas.entries c.args.entries.now.items c.args.entry.now
@@ -42,9 +49,11 @@ may_go_in c =
     elim c.if-eq.branch [
       | then-eq+in_ok-note w ↦
           let soa : is_soa (type_of_data c.args.entry.now.rdata) ≡ true = search rules in
-          let unknown = subst (λ (k : RrKey). is_some (lookup (is_at (key_cmp k)) soas) ≡ false) c.in_ok-key.ensures.value w.in_ok-note.ensures.refused in
+          let unknown = subst (λ (k : RrKey). is_some (lookup (is_at (key_cmp k)) soas) ≡ false)
+          c.in_ok-key.ensures.value w.in_ok-note.ensures.refused in
           let is : c.if-eq.soas.entries ≡ insert_entry key_cmp soas (record_key r) tt =
-          ap (λ (t : BTreeMap RrKey ⊤). t.entries) w.soas-is ∙ w.in_ok-note.ensures.ok ∙ ap (λ (k : RrKey). insert_entry key_cmp soas k tt) c.in_ok-key.ensures.value in
+          ap (λ (t : BTreeMap RrKey ⊤). t.entries) w.soas-is ∙ w.in_ok-note.ensures.ok
+          ∙ ap (λ (k : RrKey). insert_entry key_cmp soas k tt) c.in_ok-key.ensures.value in
           noted soas c.if-eq.soas.entries es r c.requires soa unknown is
       | else-eq w ↦
           let none : is_soa (type_of_data c.args.entry.now.rdata) ≡ false = search rules in

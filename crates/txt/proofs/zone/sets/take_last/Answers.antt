@@ -2,7 +2,7 @@ use Rattle.std.proofs.Common.{◌≡◌, [], refl, ap, sym, ◌∙◌, Some}
 use Rattle.std.specs.Ordering.{is_ne}
 use Rattle.std.specs.declared.cmp.Ordering.{Ordering}
 use Rattle.std.specs.declared.cmp.Ordering.TheVariants.{Less, Equal, Greater}
-use Rattle.base.proofs.KeyLemmas.{key_cmp-exact}
+use Rattle.base.proofs.names.KeyLemmas.{key_cmp-exact}
 use Rattle.base.specs.RrKey.{key_cmp}
 use Rattle.base.specs.declared.rr_key.RrKey.{RrKey}
 use Rattle.std.specs.Prelude.{◌≢◌, false, true}
@@ -22,12 +22,18 @@ pub returns-then-is_ne-clause-none : goal.returns-then-is_ne-clause-none
 returns-then-is_ne-clause-none c =
     let last = c.in_ok-last.field-0.now in
     let at = sym c.in_ok-last.ensures in
-    let greater = after (key_cmp c.args.key.now last.0) (ap is_ne (sym c.cmp.ensures) ∙ sym c.is_ne.ensures ∙ c.if-is_ne.true) (c.requires.after last at) in
+    let greater = after (key_cmp c.args.key.now last.0)
+    (ap is_ne (sym c.cmp.ensures) ∙ sym c.is_ne.ensures ∙ c.if-is_ne.true) (c.requires.after last at) in
     (refl, above_by_last c.args.key.now [] c.args.run.now last c.requires.ordered at greater)
 
 pub returns-clause-some : goal.returns-clause-some
 returns-clause-some c =
     let last = c.in_ok-last.field-0.now in
-    let same = equal (key_cmp c.args.key.now last.0) (ap is_ne (sym c.cmp.ensures) ∙ sym c.is_ne.ensures ∙ c.if-is_ne.false) in
-    last_run c.args.run.now c.args.run.now c.pop.new.self (c.in_ok-set.field-0-0, c.in_ok-set.set) c.args.key.now refl c.in_ok-set.ensures.items
-    (last.1, sym c.in_ok-last.ensures ∙ ap (λ (k : RrKey). Some (k, last.1)) (sym (key_cmp-exact c.args.key.now last.0 same)))
+    let same = equal (key_cmp c.args.key.now last.0)
+    (ap is_ne (sym c.cmp.ensures) ∙ sym c.is_ne.ensures ∙ c.if-is_ne.false) in
+    last_run c.args.run.now c.args.run.now c.pop.new.self
+    (c.in_ok-set.field-0-0, c.in_ok-set.set) c.args.key.now refl c.in_ok-set.ensures.items (
+      last.1,
+      sym c.in_ok-last.ensures ∙ ap (λ (k : RrKey). Some (k, last.1))
+          (sym (key_cmp-exact c.args.key.now last.0 same)),
+    )

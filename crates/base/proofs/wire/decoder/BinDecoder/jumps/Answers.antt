@@ -1,6 +1,6 @@
 use Rattle.std.proofs.Common.{◌≤◌, ap, subst, sym, ◌∙◌}
 use Rattle.std.specs.FinSet as set
-use Rattle.base.specs.Reader.{Reader}
+use Rattle.base.specs.reading.Reader.{Reader}
 use Rattle.base.proofs.reading.CountLemmas.{few_kept}
 use Rattle.base.proofs.wire.decoder.BinDecoder.jumps.Goals as goal
 

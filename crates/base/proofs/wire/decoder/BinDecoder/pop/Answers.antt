@@ -1,4 +1,4 @@
-use Rattle.base.proofs.TrackLemmas.{tracked_on}
+use Rattle.base.proofs.reading.TrackLemmas.{tracked_on}
 use Rattle.base.proofs.wire.decoder.BinDecoder.pop.Goals as goal
 
 pub returns-in-Some-clause-tracks : goal.returns-in-Some-clause-tracks

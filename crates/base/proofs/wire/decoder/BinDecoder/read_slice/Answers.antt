@@ -1,4 +1,4 @@
-use Rattle.base.proofs.TrackLemmas.{tracked_on}
+use Rattle.base.proofs.reading.TrackLemmas.{tracked_on}
 use Rattle.base.proofs.wire.decoder.BinDecoder.read_slice.Goals as goal
 
 pub returns-clause-tracks : goal.returns-clause-tracks

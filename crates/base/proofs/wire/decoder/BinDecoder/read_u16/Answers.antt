@@ -1,4 +1,4 @@
-use Rattle.base.proofs.TrackLemmas.{tracked_on}
+use Rattle.base.proofs.reading.TrackLemmas.{tracked_on}
 use Rattle.base.proofs.wire.decoder.BinDecoder.read_u16.Goals as goal
 
 pub returns-in-len2-up-clause-tracks : goal.returns-in-len2-up-clause-tracks

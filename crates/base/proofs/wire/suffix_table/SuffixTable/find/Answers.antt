@@ -1,10 +1,10 @@
 use Rattle.std.proofs.Common.{rules, ◌≡◌, ◌≢◌, ◌∙◌, Some, ap, length, refl, sym, arith}
 use Rattle.std.proofs.lemmas.Bool.{false≢true}
-use Rattle.base.specs.Labels.{labels_of}
-use Rattle.base.specs.SaysName.{found_as, none_found}
-use Rattle.base.specs.Suffixes.{offset_at, offset_in}
-use Rattle.base.specs.Written.{found_in}
-use Rattle.base.proofs.SuffixLemmas.{found_first, found_later, found_at, found_end, found_near}
+use Rattle.base.specs.names.Labels.{labels_of}
+use Rattle.base.specs.writing.SaysName.{found_as, none_found}
+use Rattle.base.specs.writing.Suffixes.{offset_at, offset_in}
+use Rattle.base.specs.writing.Written.{found_in}
+use Rattle.base.proofs.writing.SuffixLemmas.{found_first, found_later, found_at, found_end, found_near}
 use Rattle.base.proofs.wire.suffix_table.SuffixTable.find.Goals as goal
 
 pub loop-suffix-init : goal.loop-suffix-init
@@ -16,7 +16,8 @@ loop-suffix-preserved c =
     let at = rw c.deref-suffix-items.ensures.value at c.suffix-item.is in
     let inside = c.self.inside in
     let other : t.labels ≢ labels_of c.args.wire.now = λ same. false≢true (sym c.if-is.false ∙ c.is.ensures.1 same) in
-    c.loop-suffix.invariant ∙ found_at inside.first.items inside.others.items _ t _ (omega arith) at ∙ found_later t _ _ other
+    c.loop-suffix.invariant ∙ found_at inside.first.items inside.others.items _ t _ (omega arith) at
+    ∙ found_later t _ _ other
 
 pub returns-then-is-clause-value : goal.returns-then-is-clause-value
 returns-then-is-clause-value c =

@@ -1,6 +1,6 @@
 use Rattle.std.proofs.Common.{◌≡◌, ◌++◌, drop}
-use Rattle.base.specs.Labels.{labels_of}
-use Rattle.base.specs.Written.{found_in}
+use Rattle.base.specs.names.Labels.{labels_of}
+use Rattle.base.specs.writing.Written.{found_in}
 use Rattle.base.proofs.wire.suffix_table.SuffixTable.find.Given as goal
 
 abbrev pub invariant-loop-suffix : goal.invariant-loop-suffix

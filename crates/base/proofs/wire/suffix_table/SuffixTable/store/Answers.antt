@@ -1,9 +1,9 @@
 use Rattle.std.proofs.Common.{rules, ◌≡◌, ◌∙◌, ◌++◌, ◌∷◌, [], length, sym, ap, subst, append_assoc, refl}
 use Rattle.std.proofs.lemmas.Result.{err_from_is_err_and}
-use Rattle.base.specs.Labels.{labels_of}
-use Rattle.base.specs.State.{Stored}
-use Rattle.base.specs.Suffixes.{index_key, offset_in, IsTable}
-use Rattle.base.proofs.SuffixLemmas.{IsTable-first, IsTable-push}
+use Rattle.base.specs.names.Labels.{labels_of}
+use Rattle.base.specs.writing.State.{Stored}
+use Rattle.base.specs.writing.Suffixes.{index_key, offset_in, IsTable}
+use Rattle.base.proofs.writing.SuffixLemmas.{IsTable-first, IsTable-push}
 use Rattle.base.proofs.wire.suffix_table.SuffixTable.store.Goals as goal
 
 pub invariant_of-self-then-is_empty : goal.invariant_of-self-then-is_empty
@@ -29,7 +29,13 @@ pub invariant_of-self-in_err-reserve : goal.invariant_of-self-in_err-reserve
 invariant_of-self-in_err-reserve c = rw c.in_err-reserve.ensures.items c.self.invariant
 
 pub returns-clause-ok : goal.returns-clause-ok
-returns-clause-ok c = rw (← c.self.view_is, append_assoc, c.push_reserved.ensures.items, c.in_ok-reserve.ensures.items, c.in_ok-suffix.ensures) refl
+returns-clause-ok c = rw (
+  ← c.self.view_is,
+  append_assoc,
+  c.push_reserved.ensures.items,
+  c.in_ok-reserve.ensures.items,
+  c.in_ok-suffix.ensures,
+) refl
 
 -- memory ran out
 pub returns-in_err-reserve : goal.returns-in_err-reserve

@@ -1,7 +1,8 @@
-use Rattle.std.proofs.Common.{◌≡◌, ◌∙◌, ◌++◌, ◌∷◌, [], ◌≤◌, ◌+◌, ◌-◌, List, length, length-append, take, refl, sym, ap, subst, arith}
-use Rattle.base.specs.State.{Stored}
-use Rattle.base.specs.Suffixes.{index_key, offset_in, IsTable}
-use Rattle.base.proofs.SuffixLemmas.{IsTable-pop, IsTable-cut, cut_last}
+use Rattle.std.proofs.Common.{◌≡◌, ◌∙◌, ◌++◌, ◌∷◌, [], ◌≤◌, ◌+◌, ◌-◌, List, length, length-append, take, refl, sym, ap}
+use Rattle.std.proofs.Common.{subst, arith}
+use Rattle.base.specs.writing.State.{Stored}
+use Rattle.base.specs.writing.Suffixes.{index_key, offset_in, IsTable}
+use Rattle.base.proofs.writing.SuffixLemmas.{IsTable-pop, IsTable-cut, cut_last}
 use Rattle.base.proofs.wire.suffix_table.SuffixTable.truncate.Goals as goal
 
 pub loop-self-preserved-in-Some : goal.loop-self-preserved-in-Some

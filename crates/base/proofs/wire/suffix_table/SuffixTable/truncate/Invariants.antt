@@ -1,5 +1,5 @@
 use Rattle.std.proofs.Common.{◌≡◌, ◌-◌, ◌++◌, length, take}
-use Rattle.base.specs.Suffixes.{offset_in, IsTable}
+use Rattle.base.specs.writing.Suffixes.{offset_in, IsTable}
 use Rattle.base.proofs.wire.suffix_table.SuffixTable.truncate.Given as goal
 
 abbrev pub invariant-loop-self : goal.invariant-loop-self

@@ -1,7 +1,7 @@
 use Rattle.std.proofs.Common.{ℕ, List, ◌∷◌, ◌++◌, [], ap, ◌∙◌}
 use Rattle.std.specs.Char.{to_ascii_lowercase}
 use Rattle.std.specs.Prelude.{map}
-use Rattle.base.proofs.CompareLemmas.{map_lower-wire_of}
+use Rattle.base.proofs.names.CompareLemmas.{map_lower-wire_of}
 use Rattle.base_data.proofs.rdata.canonical.NameOctets.of.Goals as goal
 
 pub returns : goal.returns

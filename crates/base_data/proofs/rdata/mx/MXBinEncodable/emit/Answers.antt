@@ -1,5 +1,5 @@
 use Rattle.std.proofs.Common.{rules}
-use Rattle.base.proofs.WrittenLemmas.{Exactly-then}
+use Rattle.base.proofs.writing.WrittenLemmas.{Exactly-then}
 use Rattle.base_data.proofs.rdata.mx.MXBinEncodable.emit.Goals as goal
 
 pub returns-clause-exact : goal.returns-clause-exact

@@ -13,6 +13,8 @@ options-preserved c =
     let options = c.as_ref-option-items.result.now in
     let option = c.option-item.result in
     let seen = take c.options.option-index options in
-    let more = take_more options c.options.option-index option c.options-test.true ∙ ap (λ (o : OptionValue). seen ++ o ∷ []) (sym c.option-item.is) in
+    let more = take_more options c.options.option-index option c.options-test.true
+    ∙ ap (λ (o : OptionValue). seen ++ o ∷ []) (sym c.option-item.is) in
     subst (All FitsOption) (sym more)
-    (All-push FitsOption seen option c.options.invariant (omega (arith, c.code.type_inv, c.code.ensures), omega (arith, c.bytes.ensures.short)))
+    (All-push FitsOption seen option c.options.invariant
+    (omega (arith, c.code.type_inv, c.code.ensures), omega (arith, c.bytes.ensures.short)))

@@ -1,8 +1,8 @@
 use Rattle.std.proofs.Common.{◌≡◌, take}
 use Rattle.std.specs.Prelude.{All}
-use Rattle.base.specs.Laws.{Keeps}
-use Rattle.base.specs.Wire.{state_of}
-use Rattle.base.specs.Written.{after, in_turn}
+use Rattle.base.specs.writing.Laws.{Keeps}
+use Rattle.base.specs.writing.Wire.{state_of}
+use Rattle.base.specs.writing.Written.{after, in_turn}
 use Rattle.base_data.specs.OPT.{FitsOption, option_written}
 use Rattle.base_data.proofs.rdata.opt.OPTBinEncodable.emit.Given as goal
 

@@ -1,7 +1,7 @@
 use Rattle.std.proofs.Common.{ℕ, [], ◌∷◌, ap, subst, sym}
-use Rattle.base.specs.Tracks.{Tracked}
-use Rattle.base.specs.Reading.{place_after}
-use Rattle.base.proofs.TrackLemmas.{tracked_both}
+use Rattle.base.specs.reading.Tracks.{Tracked}
+use Rattle.base.specs.reading.Reading.{place_after}
+use Rattle.base.proofs.reading.TrackLemmas.{tracked_both}
 use Rattle.base_data.proofs.rdata.soa.SOABinDecodable.read.Goals as goal
 
 pub returns-clause-tracks : goal.returns-clause-tracks

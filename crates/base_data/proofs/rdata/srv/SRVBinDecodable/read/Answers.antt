@@ -1,8 +1,8 @@
 use Rattle.std.proofs.Common.{◌≡◌, ℕ, ◌+◌, [], ◌∷◌, arith, subst}
 use Rattle.std.specs.Int.{w16}
-use Rattle.base.specs.Tracks.{Tracked}
-use Rattle.base.proofs.ReadLemmas.{number_is}
-use Rattle.base.proofs.TrackLemmas.{tracked_then}
+use Rattle.base.specs.reading.Tracks.{Tracked}
+use Rattle.base.proofs.reading.ReadLemmas.{number_is}
+use Rattle.base.proofs.reading.TrackLemmas.{tracked_then}
 use Rattle.base_data.proofs.rdata.srv.SRVBinDecodable.read.Goals as goal
 
 pub returns-clause-tracks : goal.returns-clause-tracks

@@ -1,7 +1,7 @@
 use Rattle.std.proofs.Common.{◌∙◌, ap}
-use Rattle.base.proofs.WrittenLemmas.{Exactly-then}
-use Rattle.base.specs.Wire.{state_of}
-use Rattle.base.specs.Written.{after, just, plain_name}
+use Rattle.base.proofs.writing.WrittenLemmas.{Exactly-then}
+use Rattle.base.specs.writing.Wire.{state_of}
+use Rattle.base.specs.writing.Written.{after, just, plain_name}
 use Rattle.base_data.specs.SRV.{srv_numbers}
 use Rattle.base_data.proofs.rdata.srv.SRVBinEncodable.emit.Goals as goal
 

@@ -1,5 +1,5 @@
 use Rattle.std.proofs.Common.{◌≡◌, map, take}
-use Rattle.base.specs.Labels.{wire_of}
+use Rattle.base.specs.names.Labels.{wire_of}
 use Rattle.base_data.proofs.rdata.txt.TXT.new.Given as goal
 
 abbrev pub invariant-loop-string : goal.invariant-loop-string

@@ -1,20 +1,24 @@
 use Rattle.std.proofs.Common.{rules, sym, ◌∙◌, ◌≡◌}
 use Rattle.std.proofs.lemmas.Result.{err_from_is_err_and}
-use Rattle.base.proofs.TrackLemmas.{bounded_after, bounded_here, tracked_both, tracks_many_all, tracks_many_more, tracks_many_none}
+use Rattle.base.proofs.reading.TrackLemmas.{bounded_after, bounded_here, tracked_both, tracks_many_all}
+use Rattle.base.proofs.reading.TrackLemmas.{tracks_many_more, tracks_many_none}
 use Rattle.op.specs.Section.{section_value, section_with}
-use Rattle.op.proofs.SectionLemmas.{takes_all, takes_failed, takes_more, takes_unread, test_fails, test_passes}
+use Rattle.op.proofs.reading.SectionLemmas.{takes_all, takes_failed, takes_more, takes_unread, test_fails, test_passes}
 use Rattle.op.proofs.message.reading.section.read_each.Goals as goal
 
 pub returns-in_err-record_type-clause-read : goal.returns-in_err-record_type-clause-read
 returns-in_err-record_type-clause-read c =
-    let p = err_from_is_err_and c.from_residual-in_err-record_type.result c.from_residual-in_err-record_type.ensures.1 in
+    let p = err_from_is_err_and c.from_residual-in_err-record_type.result
+    c.from_residual-in_err-record_type.ensures.1 in
     rw (p.1, p.2) (takes_unread c.loop.invariant.takes c.in_err-record_type.field-0.0 c.loop-test.true
     c.in_err-record_type.ensures.read)
 
 pub returns-in-Some-clause-read : goal.returns-in-Some-clause-read
 returns-in-Some-clause-read c =
     takes_failed c.loop.invariant.takes c.in-Some.fault c.loop-test.true c.in_ok-record_type.ensures.read.0
-    (test_fails c.args.is_additional c.args.op_code (section_value c.loop.records.items c.loop.edns c.loop.signature) c.read_in_place.new.self c.in-Some.fault c.in-Some.ensures)
+    (test_fails c.args.is_additional c.args.op_code
+    (section_value c.loop.records.items c.loop.edns c.loop.signature) c.read_in_place.new.self c.in-Some.fault
+    c.in-Some.ensures)
 
 pub returns-in_err-record_type-clause-tracks : goal.returns-in_err-record_type-clause-tracks
 returns-in_err-record_type-clause-tracks c =
@@ -41,7 +45,9 @@ loop-preserved c =
     let next = c.read_in_place.new.self in
     let added : after ≡ section_with before next = search rules in
     record {
-      takes = rw read.1 (takes_more c.loop.invariant.takes c.loop-test.true read.0 (test_passes c.args.is_additional c.args.op_code before after next (sym c.in_default.is ∙ c.fault_of.ensures) added));
+      takes = rw read.1 (takes_more c.loop.invariant.takes c.loop-test.true read.0
+          (test_passes c.args.is_additional c.args.op_code before after next
+          (sym c.in_default.is ∙ c.fault_of.ensures) added));
       tracks = tracks_many_more c.loop.invariant.tracks c.loop-test.true read.0 c.in_ok-record_type.ensures.tracks;
     }
 

@@ -1,5 +1,5 @@
 use Rattle.std.proofs.Common.{arith, refl}
-use Rattle.base.proofs.TrackLemmas.{tracks_many_all, tracks_many_none}
+use Rattle.base.proofs.reading.TrackLemmas.{tracks_many_all, tracks_many_none}
 use Rattle.rr.specs.Record.{record_at, record_places}
 use Rattle.op.specs.Section.{section_from}
 use Rattle.op.proofs.message.reading.section.read_section.Goals as goal

@@ -8,4 +8,5 @@ returns-in-Some c = c.records_count.ensures ∙ ap (λ o. length (records_in o))
     ∙ ap (λ (z : HeldZone). length (records_at z.sets c.args.key.now)) c.self.view_is
 
 pub returns-in-None : goal.returns-in-None
-returns-in-None c = ap (λ o. length (records_in o)) c.in-None.ensures.value ∙ ap (λ (z : HeldZone). length (records_at z.sets c.args.key.now)) c.self.view_is
+returns-in-None c = ap (λ o. length (records_in o)) c.in-None.ensures.value
+    ∙ ap (λ (z : HeldZone). length (records_at z.sets c.args.key.now)) c.self.view_is

@@ -1,4 +1,4 @@
-use Rattle.base.specs.NameOrder.{same_name}
+use Rattle.base.specs.names.NameOrder.{same_name}
 use Rattle.base.specs.RrKey.{key_of}
 use Rattle.op_use.proofs.TypeSteps.{soa_is}
 use Rattle.op_use.proofs.UpdateSteps.{counted}
@@ -12,9 +12,11 @@ use Rattle.std.proofs.Common.{ap, length, nat_le, sym, true, ◌&&◌, ◌||◌,
 pub returns-then-eq : goal.returns-then-eq
 returns-then-eq c =
     let z = c.args.self.now in
-    let soa : is_soa (type_of_record c.args.entry.now) ≡ true = ap is_soa (sym c.record_type.ensures) ∙ soa_is c.record_type.result ∙ sym c.eq.ensures ∙ c.if-eq.true in
+    let soa : is_soa (type_of_record c.args.entry.now) ≡ true =
+    ap is_soa (sym c.record_type.ensures) ∙ soa_is c.record_type.result ∙ sym c.eq.ensures ∙ c.if-eq.true in
     sym (counted z.origin z.class z.sets c.args.entry.now
-    ∙ ap (λ b. b || ((same_name c.args.entry.now.name z.origin && (is_soa (type_of_record c.args.entry.now) || is_ns (type_of_record c.args.entry.now)))
+    ∙ ap (λ b. b || ((same_name c.args.entry.now.name z.origin
+    && (is_soa (type_of_record c.args.entry.now) || is_ns (type_of_record c.args.entry.now)))
     && nat_le (length (records_at z.sets (record_key c.args.entry.now))) 1)) soa)
 
 pub returns-then-not-is_guarded : goal.returns-then-not-is_guarded
@@ -22,9 +24,12 @@ returns-then-not-is_guarded c =
     let z = c.args.self.now in
     let of_type = type_of_record c.args.entry.now in
     let few = nat_le (length (records_at z.sets (record_key c.args.entry.now))) 1 in
-    let no_soa = ap is_soa (sym c.record_type.ensures) ∙ soa_is c.record_type.result ∙ sym c.eq.ensures ∙ c.if-eq.false in
-    let free = ap (λ (y : HeldZone). same_name c.args.entry.now.name y.origin && (is_soa of_type || is_ns of_type)) (sym c.self.view_is)
-    ∙ ap (λ t. same_name c.args.entry.now.name c.self.inside.origin.now && (is_soa t || is_ns t)) (sym c.record_type-2.ensures) ∙ sym c.is_guarded.ensures ∙ c.if-not-is_guarded.true in
+    let no_soa = ap is_soa (sym c.record_type.ensures) ∙ soa_is c.record_type.result ∙ sym c.eq.ensures
+    ∙ c.if-eq.false in
+    let free = ap (λ (y : HeldZone). same_name c.args.entry.now.name y.origin && (is_soa of_type || is_ns of_type))
+    (sym c.self.view_is)
+    ∙ ap (λ t. same_name c.args.entry.now.name c.self.inside.origin.now && (is_soa t || is_ns t))
+    (sym c.record_type-2.ensures) ∙ sym c.is_guarded.ensures ∙ c.if-not-is_guarded.true in
     sym (counted z.origin z.class z.sets c.args.entry.now
     ∙ (λ i. no_soa i || (free i && few)))
 
@@ -33,9 +38,13 @@ returns c =
     let z = c.args.self.now in
     let of_type = type_of_record c.args.entry.now in
     let few = nat_le (length (records_at z.sets (record_key c.args.entry.now))) 1 in
-    let no_soa = ap is_soa (sym c.record_type.ensures) ∙ soa_is c.record_type.result ∙ sym c.eq.ensures ∙ c.if-eq.false in
-    let guarded = ap (λ (y : HeldZone). same_name c.args.entry.now.name y.origin && (is_soa of_type || is_ns of_type)) (sym c.self.view_is)
-    ∙ ap (λ t. same_name c.args.entry.now.name c.self.inside.origin.now && (is_soa t || is_ns t)) (sym c.record_type-2.ensures) ∙ sym c.is_guarded.ensures ∙ c.if-not-is_guarded.false in
-    let key_is : c.in_ok-key.key ≡ record_key c.args.entry.now = c.in_ok-key.ensures ∙ ap (key_of c.args.entry.now.name) c.record_type-3.ensures in
+    let no_soa = ap is_soa (sym c.record_type.ensures) ∙ soa_is c.record_type.result ∙ sym c.eq.ensures
+    ∙ c.if-eq.false in
+    let guarded = ap (λ (y : HeldZone). same_name c.args.entry.now.name y.origin && (is_soa of_type || is_ns of_type))
+    (sym c.self.view_is)
+    ∙ ap (λ t. same_name c.args.entry.now.name c.self.inside.origin.now && (is_soa t || is_ns t))
+    (sym c.record_type-2.ensures) ∙ sym c.is_guarded.ensures ∙ c.if-not-is_guarded.false in
+    let key_is : c.in_ok-key.key ≡ record_key c.args.entry.now =
+    c.in_ok-key.ensures ∙ ap (key_of c.args.entry.now.name) c.record_type-3.ensures in
     ap (λ n. nat_le n 1) (c.count.ensures ∙ ap (λ k. length (records_at z.sets k)) key_is)
     ∙ sym (counted z.origin z.class z.sets c.args.entry.now ∙ (λ i. no_soa i || (guarded i && few)))

@@ -7,4 +7,5 @@ use Rattle.std.specs.BTreeMap.{get}
 
 -- the sets under the keys so far are here
 abbrev pub invariant-loop-key : goal.invariant-loop-key
-invariant-loop-key l = (q : RrKey) → get key_cmp l.sets q ≡ cond (has_key q (take l.key-index l.keys)) (get key_cmp l.zone.sets q) None
+invariant-loop-key l = (q : RrKey) → get key_cmp l.sets q ≡ cond (has_key q (take l.key-index l.keys))
+    (get key_cmp l.zone.sets q) None

@@ -1,16 +1,15 @@
-use Rattle.op_use.proofs.HeldSteps.{removed_map}
+use Rattle.op_use.proofs.ChangingSteps.{held_as, map_out, set_out}
 use Rattle.op_use.proofs.apply.changing_zone.ChangingZone.remove.Goals as goal
-use Rattle.op_use.specs.HeldZone.{HeldZone}
-use Rattle.op_use.specs.MapUpdates.{Lacks}
-use Rattle.std.proofs.Common.{refl, subst}
+use Rattle.std.proofs.Common.{[], refl}
 
 pub invariant_of-self : goal.invariant_of-self
 invariant_of-self c =
     let i = c.self.inside in
-    removed_map i.class c.args.key.now i.sets c.remove.new.self c.self.invariant c.remove.ensures.updates.0
+    map_out i.class c.args.key.now i.sets c.remove.new.self c.remove.ensures.updates.0 c.self.invariant
 
 pub returns : goal.returns
 returns c =
     let i = c.self.inside in
-    subst (λ (x : HeldZone). Lacks c.args.key.now x (record { origin = i.origin.now; class = i.class; sets = c.remove.new.self })) c.self.view_is
-    (c.remove.new.self, refl, c.remove.ensures.updates.0)
+    held_as c.args.key.now c.args.key.now (λ xs. [])
+    (record { origin = i.origin.now; class = i.class; sets = i.sets }) c.args.self.now c.remove.new.self refl
+    c.self.view_is (set_out i.class c.args.key.now i.sets c.remove.new.self c.remove.ensures.updates.0)

@@ -7,6 +7,7 @@ use Rattle.std.specs.List.{list_all}
 -- what is left decides, and the sets that were looked at are listed
 abbrev pub invariant-loop-entry : goal.invariant-loop-entry
 invariant-loop-entry l = record {
-  left : list_all (passes l.self.sets l.self.class l.entries) (drop l.entry-index l.entries) ≡ list_all (passes l.self.sets l.self.class l.entries) l.entries;
+  left : list_all (passes l.self.sets l.self.class l.entries) (drop l.entry-index l.entries) ≡ list_all
+      (passes l.self.sets l.self.class l.entries) l.entries;
   known : AreComplete l.self.sets l.self.class l.entries l.held;
 }

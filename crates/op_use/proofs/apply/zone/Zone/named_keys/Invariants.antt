@@ -1,4 +1,4 @@
-use Rattle.base.specs.NameOrder.{same_lower}
+use Rattle.base.specs.names.NameOrder.{same_lower}
 use Rattle.base.specs.RrKey.{key_cmp}
 use Rattle.base.specs.declared.rr_key.RrKey.{RrKey}
 use Rattle.op_use.proofs.apply.zone.Zone.named_keys.Given as goal
@@ -11,5 +11,6 @@ use Rattle.std.specs.BTreeSet.{contains}
 abbrev pub invariant-loop-entry : goal.invariant-loop-entry
 invariant-loop-entry l = record {
   named : NamesKeys (take l.entry-index l.entries) l.self.sets l.keys.items;
-  seen : (k q : RrKey) → contains key_cmp l.seen k ≡ true → same_lower k.name q.name ≡ true → names_owner (take l.entry-index l.entries) q ≡ true;
+  seen : (k q : RrKey) → contains key_cmp l.seen k ≡ true → same_lower k.name q.name ≡ true
+      → names_owner (take l.entry-index l.entries) q ≡ true;
 }

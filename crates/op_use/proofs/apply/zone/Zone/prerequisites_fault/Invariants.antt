@@ -5,4 +5,5 @@ use Rattle.std.proofs.Common.{drop, ◌≡◌}
 
 -- what is left decides
 abbrev pub invariant-loop-entry : goal.invariant-loop-entry
-invariant-loop-entry l = first_fault (prerequisite_fault (zone_held l.self)) (drop l.entry-index l.entries) ≡ first_fault (prerequisite_fault (zone_held l.self)) l.entries
+invariant-loop-entry l = first_fault (prerequisite_fault (zone_held l.self)) (drop l.entry-index l.entries)
+    ≡ first_fault (prerequisite_fault (zone_held l.self)) l.entries

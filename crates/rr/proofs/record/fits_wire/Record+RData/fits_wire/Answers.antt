@@ -22,10 +22,16 @@ record IsOwn (r : Record RData) : Type 0 where
   readable : IsReadable r.rdata
   type_reads : type_of (type_number (type_of_data r.rdata)) ≡ type_of_data r.rdata
 
-of_class : (r : Record RData) → IsOwn r → is_opt_type (type_of_data r.rdata) ≡ false → class_of (class_number r.dns_class) ≡ r.dns_class
+of_class : (r : Record RData) → IsOwn r → is_opt_type (type_of_data r.rdata) ≡ false
+    → class_of (class_number r.dns_class) ≡ r.dns_class
     → class_number r.dns_class < 32768 → FitsRecord r
 of_class r own plain reads narrow = record {
-  reads = record { type_reads = own.type_reads; root = λ e. absurd (true≢false (sym (ap is_opt_type e) ∙ plain)); readable = own.readable };
+  reads = record {
+    type_reads = own.type_reads;
+    root =
+        λ e. absurd (true≢false (sym (ap is_opt_type e) ∙ plain));
+    readable = own.readable;
+  };
   absolute = own.absolute;
   class_reads = λ _. reads;
   narrow = λ _. narrow;
@@ -33,7 +39,8 @@ of_class r own plain reads narrow = record {
   not_flushing = λ e. absurd (true≢false (sym e ∙ plain));
 }
 
-of_payload : (r : Record RData) → IsOwn r → is_opt_type (type_of_data r.rdata) ≡ true → r.name.labels ≡ [] → opt_class (class_number r.dns_class) ≡ r.dns_class
+of_payload : (r : Record RData) → IsOwn r → is_opt_type (type_of_data r.rdata) ≡ true → r.name.labels ≡ []
+    → opt_class (class_number r.dns_class) ≡ r.dns_class
     → r.mdns_cache_flush ≡ false → FitsRecord r
 of_payload r own opt root reads flush = record {
   reads = record { type_reads = own.type_reads; root = λ _. root; readable = own.readable };
@@ -47,8 +54,15 @@ of_payload r own opt root reads flush = record {
 pub returns-then-is_root : goal.returns-then-is_root
 returns-then-is_root c =
     let r = c.args.self.now in
-    let own : IsOwn r = record { absolute = search rules; readable = search rules; type_reads = reads_type _ _ _ _ _ c.ne.ensures c.if-ne.false c.from-else-not-is_readable.ensures c.from.ensures c.record_type-record_type.ensures } in
-    let opt : is_opt_type (type_of_data r.rdata) ≡ true = ap is_opt_type ((types_Decide (type_of_data r.rdata) types.OPT).0 (search rules)) in
+    let own : IsOwn r = record {
+      absolute = search rules;
+      readable = search rules;
+      type_reads =
+          reads_type _ _ _ _ _ c.ne.ensures c.if-ne.false c.from-else-not-is_readable.ensures c.from.ensures
+          c.record_type-record_type.ensures;
+    } in
+    let opt : is_opt_type (type_of_data r.rdata) ≡ true =
+    ap is_opt_type ((types_Decide (type_of_data r.rdata) types.OPT).0 (search rules)) in
     let root : r.name.labels ≡ [] = search rules in (
       λ yes. let both = c.has_payload_size.ensures.0 yes in of_payload r own opt root both.0 both.1,
       λ fits. c.has_payload_size.ensures.1 (fits.payload_reads opt, fits.not_flushing opt),
@@ -57,7 +71,13 @@ returns-then-is_root c =
 pub returns-else-eq : goal.returns-else-eq
 returns-else-eq c =
     let r = c.args.self.now in
-    let own : IsOwn r = record { absolute = search rules; readable = search rules; type_reads = reads_type _ _ _ _ _ c.ne.ensures c.if-ne.false c.from-else-not-is_readable.ensures c.from.ensures c.record_type-record_type.ensures } in
+    let own : IsOwn r = record {
+      absolute = search rules;
+      readable = search rules;
+      type_reads =
+          reads_type _ _ _ _ _ c.ne.ensures c.if-ne.false c.from-else-not-is_readable.ensures c.from.ensures
+          c.record_type-record_type.ensures;
+    } in
     let plain : is_opt_type (type_of_data r.rdata) ≡ false = not_opt (type_of_data r.rdata) (search rules) in (
       λ yes. let both = c.has_class.ensures.0 yes in of_class r own plain both.0 both.1,
       λ fits. c.has_class.ensures.1 (fits.class_reads plain, fits.narrow plain),

@@ -1,8 +1,8 @@
-use Rattle.base.proofs.LawLemmas.{Keeps-then}
-use Rattle.base.proofs.WrittenLemmas.{Exactly-same, Exactly-then}
+use Rattle.base.proofs.writing.LawLemmas.{Keeps-then}
+use Rattle.base.proofs.writing.WrittenLemmas.{Exactly-same, Exactly-then}
 use Rattle.base.specs.RecordType.{type_number}
-use Rattle.base.specs.Wire.{state_of}
-use Rattle.base.specs.Written.{Writing, both, just, name, sized}
+use Rattle.base.specs.writing.Wire.{state_of}
+use Rattle.base.specs.writing.Written.{Writing, both, just, name, sized}
 use Rattle.base_data.specs.Kinds.{data_written}
 use Rattle.base_data.specs.declared.rdata.RData.{RData}
 use Rattle.rr.proofs.record.writing.RecordBinEncodable.emit.Goals as goal
@@ -12,7 +12,8 @@ use Rattle.std.proofs.Common.{List, [], ap, length, subst, sym, take, ℕ, ◌++
 use Rattle.std.proofs.lemmas.Result.{on_ok_weaker}
 
 -- the fields without the room for RDLENGTH, and then the data
-after_owner : (xs : List ℕ) (n m type class ttl : ℕ) (d : RData) (w : Writing) → xs ≡ fields_of n m ttl ++ 0 ∷ 0 ∷ [] → n ≡ type → m ≡ class → data_written d ≡ w
+after_owner : (xs : List ℕ) (n m type class ttl : ℕ) (d : RData) (w : Writing) → xs ≡ fields_of n m ttl ++ 0 ∷ 0 ∷ []
+    → n ≡ type → m ≡ class → data_written d ≡ w
     → both (just (take (length xs - 2) xs)) (sized w) ≡ both (just (fields_of type class ttl)) (sized (data_written d))
 after_owner xs n m type class ttl d w is type_is class_is data_is =
     ap (λ (ys : List ℕ). both (just (take (length ys - 2) ys)) (sized w)) is
@@ -40,5 +41,7 @@ returns-clause-exact g c =
     let z = state_of c.emit_sized.new.encoder in
     Exactly-then c.emit_sized.result (name raw.labels) rest (state_of c.args.encoder.now) m z c.in_ok-emit.ensures.exact
     (Exactly-same c.emit_sized.result _ rest m z
-    (after_owner c.fields-fields.result c.from.result c.to_field-class.result raw.type raw.class raw.ttl raw.rdata (g.R.BinEncodable.written c.args.self.now.rdata)
-    c.fields-fields.ensures.bytes type_is c.to_field-class.ensures (g.met.R.RecordData.keeps_written c.args.self.now.rdata)) c.emit_sized.ensures.exact)
+    (after_owner c.fields-fields.result c.from.result c.to_field-class.result raw.type raw.class raw.ttl raw.rdata
+    (g.R.BinEncodable.written c.args.self.now.rdata)
+    c.fields-fields.ensures.bytes type_is c.to_field-class.ensures
+    (g.met.R.RecordData.keeps_written c.args.self.now.rdata)) c.emit_sized.ensures.exact)

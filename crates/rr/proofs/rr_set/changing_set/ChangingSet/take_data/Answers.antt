@@ -8,7 +8,13 @@ use Rattle.std.proofs.Common.{List, [], ap, cond, sym, ◌∙◌, ◌∷◌}
 
 pub returns-else-branch-clause-ok : goal.returns-else-branch-clause-ok
 returns-else-branch-clause-ok c =
-    let of : List (Record RData) → SetValue = λ rs. record c.self.inside.set { records = rs; ttl = cond c.self.inside.is_changed (last_ttl rs) c.self.inside.set.ttl } in
+    let of : List (Record RData) → SetValue =
+    λ rs. record c.self.inside.set {
+      records = rs;
+      ttl =
+          cond c.self.inside.is_changed (last_ttl rs) c.self.inside.set.ttl;
+    } in
     let none = sym c.in_ok-take_data.ensures.went ∙ c.if-branch.false in
     let entries = c.args.entry.now ∷ [] in
-    ap of (c.in_ok-take_data.ensures.ok ∙ without_none entries c.self.inside.records none) ∙ sym (set_stays entries (of c.self.inside.records) none) ∙ ap (without_data entries) c.self.view_is
+    ap of (c.in_ok-take_data.ensures.ok ∙ without_none entries c.self.inside.records none)
+    ∙ sym (set_stays entries (of c.self.inside.records) none) ∙ ap (without_data entries) c.self.view_is

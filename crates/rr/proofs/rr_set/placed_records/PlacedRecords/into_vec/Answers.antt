@@ -13,14 +13,17 @@ none_yet : (xs zs : List (Record RData)) (ps qs : Places) → xs ≡ [] → ps �
 none_yet xs zs ps qs none all h = ap (λ (us : List (Record RData)). us ++ present ps) none ∙ ap present all ∙ h
 
 -- the next place has this record, or none
-next_some : (xs new zs : List (Record RData)) (ps qs : Places) (o : Option (Record RData)) (r : Record RData) → ps ≡ o ∷ qs → o ≡ Some r → new ≡ xs ++ r ∷ []
+next_some : (xs new zs : List (Record RData)) (ps qs : Places) (o : Option (Record RData)) (r : Record RData)
+    → ps ≡ o ∷ qs → o ≡ Some r → new ≡ xs ++ r ∷ []
     → xs ++ present ps ≡ zs → new ++ present qs ≡ zs
 next_some xs new zs ps qs o r first is pushed h =
     ap (λ (us : List (Record RData)). us ++ present qs) pushed ∙ append_assoc xs (r ∷ []) (present qs)
     ∙ ap (λ (us : Places). xs ++ present us) (sym (first ∙ ap (λ (p : Option (Record RData)). p ∷ qs) is)) ∙ h
 
-next_none : (xs zs : List (Record RData)) (ps qs : Places) (o : Option (Record RData)) → ps ≡ o ∷ qs → o ≡ None → xs ++ present ps ≡ zs → xs ++ present qs ≡ zs
-next_none xs zs ps qs o first is h = ap (λ (us : Places). xs ++ present us) (sym (first ∙ ap (λ (p : Option (Record RData)). p ∷ qs) is)) ∙ h
+next_none : (xs zs : List (Record RData)) (ps qs : Places) (o : Option (Record RData)) → ps ≡ o ∷ qs → o ≡ None
+    → xs ++ present ps ≡ zs → xs ++ present qs ≡ zs
+next_none xs zs ps qs o first is h = ap (λ (us : Places). xs ++ present us)
+    (sym (first ∙ ap (λ (p : Option (Record RData)). p ∷ qs) is)) ∙ h
 
 -- no place is left
 no_next : (xs zs : List (Record RData)) (ps : Places) (m : ℕ) → xs ++ present ps ≡ zs → m ≡ 0 → m ≡ length ps → xs ≡ zs
@@ -31,7 +34,8 @@ pub loop-place-init : goal.loop-place-init
 loop-place-init c =
     let gives = c.into_iter-place-iterator.ensures.into_iter_gives in
     let len : c.self.inside.places.len ≡ length c.self.inside.places.items = omega (arith, c.self.inside.places.ok) in (
-      none_yet c.in_ok-records.records.items _ _ c.self.inside.places.items c.in_ok-records.ensures.items gives.0 c.self.view_is,
+      none_yet c.in_ok-records.records.items _ _ c.self.inside.places.items c.in_ok-records.ensures.items gives.0
+          c.self.view_is,
       gives.1 ∙ len ∙ ap length (sym gives.0),
     )
 
@@ -39,7 +43,8 @@ pub loop-place-preserved-in-Continue-branch-2 : goal.loop-place-preserved-in-Con
 loop-place-preserved-in-Continue-branch-2 c =
     let first = c.in-Some.ensures.steps in
     let loop = c.loop-place.invariant in (
-      next_some c.loop-place.records.items _ _ _ _ c.in-Some.place c.in-Some-place.entry first.0 c.in-Some-place.is c.in_ok-push.ensures.items loop.0,
+      next_some c.loop-place.records.items _ _ _ _ c.in-Some.place c.in-Some-place.entry first.0 c.in-Some-place.is
+          c.in_ok-push.ensures.items loop.0,
       len_step _ _ _ _ c.in-Some.place first.0 first.1 loop.1,
     )
 
@@ -52,4 +57,5 @@ loop-place-preserved c =
     )
 
 pub returns : goal.returns
-returns c = no_next c.loop-place.records.items _ _ _ c.loop-place.invariant.0 c.in-None.ensures.steps.0 c.loop-place.invariant.1
+returns c = no_next c.loop-place.records.items _ _ _ c.loop-place.invariant.0 c.in-None.ensures.steps.0
+    c.loop-place.invariant.1

@@ -5,4 +5,5 @@ use Rattle.std.specs.Vec.Iter.{into_iter_items, into_iter_len}
 
 -- the records so far and those that are left make up what there is
 abbrev pub invariant-loop-place : goal.invariant-loop-place
-invariant-loop-place l = (l.records.items ++ present (into_iter_items l.place-iterator) ≡ l.fn.self) × (into_iter_len l.place-iterator ≡ length (into_iter_items l.place-iterator))
+invariant-loop-place l = (l.records.items ++ present (into_iter_items l.place-iterator) ≡ l.fn.self)
+    × (into_iter_len l.place-iterator ≡ length (into_iter_items l.place-iterator))

@@ -1,6 +1,7 @@
 use Rattle.base_data.specs.DataOrder.{data_cmp}
 use Rattle.base_data.specs.declared.rdata.RData.{RData}
-use Rattle.rr.proofs.PlacedLemmas.{Places, count_here, count_push, index_ahead, index_here, index_last, inside, joined_here, joined_last, present_fits}
+use Rattle.rr.proofs.PlacedLemmas.{Places, count_here, count_push, index_ahead, index_here, index_last, inside}
+use Rattle.rr.proofs.PlacedLemmas.{joined_here, joined_last, present_fits}
 use Rattle.rr.proofs.SetSteps.{same_clone}
 use Rattle.rr.proofs.rr_set.placed_records.PlacedRecords.join.Goals as goal
 use Rattle.rr.specs.PlacedRecords.{IsPlaceIndex, present}
@@ -14,17 +15,22 @@ use Rattle.std.specs.Prelude.{Some}
 pub invariant_of-self-in-Some : goal.invariant_of-self-in-Some
 invariant_of-self-in-Some c =
     let ps = c.self.inside.places.items in
-    let put = c.put_at.ensures ∙ ap (λ (r : Record RData). set ps c.in-Some.place (Some r)) (same_clone _ _ c.in_ok-clone.ensures.cases) in (
+    let put = c.put_at.ensures ∙ ap (λ (r : Record RData). set ps c.in-Some.place (Some r))
+    (same_clone _ _ c.in_ok-clone.ensures.cases) in (
       subst (λ (qs : Places). IsPlaceIndex (get data_cmp c.self.inside.index) qs) (sym put)
-          (index_here (get data_cmp c.self.inside.index) ps c.in-Some.place c.args.entry.now c.self.invariant.0 c.in-Some.ensures),
-      c.self.invariant.1 ∙ sym (ap (λ (qs : Places). length (present qs)) put ∙ count_here c.args.entry.now ps c.in-Some.place c.in-Some.ensures),
+          (index_here (get data_cmp c.self.inside.index) ps c.in-Some.place c.args.entry.now c.self.invariant.0
+          c.in-Some.ensures),
+      c.self.invariant.1 ∙ sym (ap (λ (qs : Places). length (present qs)) put
+          ∙ count_here c.args.entry.now ps c.in-Some.place c.in-Some.ensures),
     )
 
 pub returns-in-Some-clause-ok : goal.returns-in-Some-clause-ok
 returns-in-Some-clause-ok c =
     let ps = c.self.inside.places.items in
-    let put = c.put_at.ensures ∙ ap (λ (r : Record RData). set ps c.in-Some.place (Some r)) (same_clone _ _ c.in_ok-clone.ensures.cases) in
-    ap present put ∙ joined_here c.args.entry.now ps c.in-Some.place c.in-Some.ensures ∙ ap (joined c.args.entry.now) c.self.view_is
+    let put = c.put_at.ensures ∙ ap (λ (r : Record RData). set ps c.in-Some.place (Some r))
+    (same_clone _ _ c.in_ok-clone.ensures.cases) in
+    ap present put ∙ joined_here c.args.entry.now ps c.in-Some.place c.in-Some.ensures
+    ∙ ap (joined c.args.entry.now) c.self.view_is
 
 pub overflow_add-self : goal.overflow_add-self
 overflow_add-self c = omega (arith, c.self.invariant.1, present_fits c.self.inside.places.items)
@@ -36,9 +42,11 @@ invariant_of-self-2 c =
     let is = pushed ∙ ap (λ (r : Record RData). ps ++ Some r ∷ []) (same_clone _ _ c.in_ok-copy.ensures.cases) in
     let len : c.len.result ≡ length ps = search rules in (
       subst (λ (qs : Places). IsPlaceIndex (get data_cmp c.insert.new.self) qs) (sym is)
-          (index_last (get data_cmp c.self.inside.index) (get data_cmp c.insert.new.self) ps c.args.entry.now c.self.invariant.0 c.fits.ensures c.in_default.ensures
+          (index_last (get data_cmp c.self.inside.index)
+          (get data_cmp c.insert.new.self) ps c.args.entry.now c.self.invariant.0 c.fits.ensures c.in_default.ensures
           c.in_ok-key.key c.len.result c.in_ok-key.ensures len c.in_ok-insert.ensures.updates.0),
-      ap (λ (n : ℕ). n + 1) c.self.invariant.1 ∙ sym (ap (λ (qs : Places). length (present qs)) is ∙ count_push ps c.args.entry.now),
+      ap (λ (n : ℕ). n + 1) c.self.invariant.1 ∙ sym
+          (ap (λ (qs : Places). length (present qs)) is ∙ count_push ps c.args.entry.now),
     )
 
 pub returns-clause-ok : goal.returns-clause-ok
@@ -70,7 +78,8 @@ pub invariant_of-self-in_err-reserve : goal.invariant_of-self-in_err-reserve
 invariant_of-self-in_err-reserve c =
     let ps = c.self.inside.places.items in
     let len : c.len.result ≡ length ps = search rules in
-    let ahead = index_ahead (get data_cmp c.self.inside.index) (get data_cmp c.insert.new.self) ps c.args.entry.now c.self.invariant.0 c.fits.ensures c.in_default.ensures
+    let ahead = index_ahead (get data_cmp c.self.inside.index)
+    (get data_cmp c.insert.new.self) ps c.args.entry.now c.self.invariant.0 c.fits.ensures c.in_default.ensures
     c.in_ok-key.key c.len.result c.in_ok-key.ensures len c.in_ok-insert.ensures.updates.0 in
     rw c.reserve.ensures.items (ahead, c.self.invariant.1)
 
@@ -78,7 +87,8 @@ pub invariant_of-self-in_err-copy : goal.invariant_of-self-in_err-copy
 invariant_of-self-in_err-copy c =
     let ps = c.self.inside.places.items in
     let len : c.len.result ≡ length ps = search rules in
-    let ahead = index_ahead (get data_cmp c.self.inside.index) (get data_cmp c.insert.new.self) ps c.args.entry.now c.self.invariant.0 c.fits.ensures c.in_default.ensures
+    let ahead = index_ahead (get data_cmp c.self.inside.index)
+    (get data_cmp c.insert.new.self) ps c.args.entry.now c.self.invariant.0 c.fits.ensures c.in_default.ensures
     c.in_ok-key.key c.len.result c.in_ok-key.ensures len c.in_ok-insert.ensures.updates.0 in
     rw c.reserve.ensures.items (ahead, c.self.invariant.1)
 

@@ -1,5 +1,5 @@
 use Rattle.std.proofs.Common.{refl}
-use Rattle.base.proofs.LawLemmas.{Keeps-same}
+use Rattle.base.proofs.writing.LawLemmas.{Keeps-same}
 use Rattle.tests_base.proofs.wire.items.CarelessEmitAndCount.emit.Goals as goal
 
 pub returns-clause-keeps : goal.returns-clause-keeps

@@ -1,5 +1,5 @@
 use Rattle.std.proofs.Common.{refl}
-use Rattle.base.proofs.LawLemmas.{Keeps-same}
+use Rattle.base.proofs.writing.LawLemmas.{Keeps-same}
 use Rattle.tests_messages.proofs.messages.message.CarelessEmitAndCount.emit.Goals as goal
 
 pub returns-then-self-clause-keeps : goal.returns-then-self-clause-keeps

@@ -10,7 +10,9 @@ use Rattle.txt.proofs.zone.sets.ZoneSets.add.Goals as goal
 pub invariant_of-self-2 : goal.invariant_of-self-2
 invariant_of-self-2 c =
     let e : RrKey × Record RData = (record_key c.args.entry, c.args.entry) in
-    let pushed : c.push_reserved.new.self.items ≡ c.self.inside.entries.items ++ (record_key c.args.entry, c.args.entry) ∷ [] = search rules in (
-      subst HaveOwnKeys (sym pushed) (All-push (λ (e : RrKey × Record RData). e.0 ≡ record_key e.1) c.self.inside.entries.items e c.self.invariant.0 refl),
+    let pushed : c.push_reserved.new.self.items
+    ≡ c.self.inside.entries.items ++ (record_key c.args.entry, c.args.entry) ∷ [] = search rules in (
+      subst HaveOwnKeys (sym pushed) (All-push (λ (e : RrKey × Record RData). e.0 ≡ record_key e.1)
+          c.self.inside.entries.items e c.self.invariant.0 refl),
       subst (KnowsSoas c.make_room.new.soas.entries) (sym pushed) c.in_ok-key.ensures.soas,
     )

@@ -1,8 +1,9 @@
 use Rattle.std.proofs.Common.{rules, ap}
-use Rattle.base.specs.Wire.{state_of}
-use Rattle.base.proofs.LawLemmas.{Keeps-same}
+use Rattle.base.specs.writing.Wire.{state_of}
+use Rattle.base.proofs.writing.LawLemmas.{Keeps-same}
 use Rattle.base.proofs.wire.encoder.append.BinEncoder.append.Goals as goal
-use Rattle.base.proofs.wire.encoder.append.BinEncoder.append.Goals.{then-limit-len-via-then-limit-len, then-limit-len-via-else-limit-len+then-limit-len-2}
+use Rattle.base.proofs.wire.encoder.append.BinEncoder.append.Goals.{then-limit-len-via-then-limit-len}
+use Rattle.base.proofs.wire.encoder.append.BinEncoder.append.Goals.{then-limit-len-via-else-limit-len+then-limit-len-2}
 
 pub returns-then-limit-len-clause-keeps : goal.returns-then-limit-len-clause-keeps
 returns-then-limit-len-clause-keeps c = elim c.then-limit-len.branch [

@@ -1,6 +1,6 @@
 use Rattle.std.proofs.Common.{refl}
-use Rattle.base.specs.Wire.{state_of}
-use Rattle.base.proofs.LawLemmas.{Keeps-same}
+use Rattle.base.specs.writing.Wire.{state_of}
+use Rattle.base.proofs.writing.LawLemmas.{Keeps-same}
 use Rattle.base.proofs.wire.encoder.items.BinEncoder.emit_all.Goals as goal
 
 pub returns-in-None-clause-keeps : goal.returns-in-None-clause-keeps

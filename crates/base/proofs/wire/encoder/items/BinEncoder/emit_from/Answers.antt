@@ -2,12 +2,12 @@ use Rattle.std.proofs.Common.{◌≡◌, [], ◌∷◌, length, length-append, a
 use Rattle.std.proofs.Math.Seq.{take-append_seam}
 use Rattle.std.proofs.lemmas.List.Elements.{All-append, All-cons, All-nil}
 use Rattle.std.proofs.lemmas.Option.{IfSome_then}
-use Rattle.base.specs.State.{State}
-use Rattle.base.specs.Wire.{state_of}
-use Rattle.base.specs.Written.{after, piece_at}
-use Rattle.base.proofs.LawLemmas.{Keeps-same, Keeps-then}
-use Rattle.base.proofs.ItemLemmas.{Turn-valid, Yields-push, cut-Keeps}
-use Rattle.base.proofs.WrittenLemmas.{after-none, after-push}
+use Rattle.base.specs.writing.State.{State}
+use Rattle.base.specs.writing.Wire.{state_of}
+use Rattle.base.specs.writing.Written.{after, piece_at}
+use Rattle.base.proofs.writing.LawLemmas.{Keeps-same, Keeps-then}
+use Rattle.base.proofs.writing.ItemLemmas.{Turn-valid, Yields-push, cut-Keeps}
+use Rattle.base.proofs.writing.WrittenLemmas.{after-none, after-push}
 use Rattle.base.proofs.wire.encoder.items.BinEncoder.emit_from.Goals as goal
 
 pub roll_back-requires : goal.roll_back-requires

@@ -1,9 +1,9 @@
 use Rattle.std.proofs.Common.{◌≡◌, ◌+◌, ◌-◌, ◌<◌, ◌^◌, ℕ, suc, List, Option, Some, None, IfSome, length}
 use Rattle.std.specs.Prelude.{All}
 use Rattle.std.specs.Iterator.{Count, IsFinite, YieldsThen, size}
-use Rattle.base.specs.Laws.{Keeps}
-use Rattle.base.specs.Wire.{state_of}
-use Rattle.base.specs.Written.{after, in_turn}
+use Rattle.base.specs.writing.Laws.{Keeps}
+use Rattle.base.specs.writing.Wire.{state_of}
+use Rattle.base.specs.writing.Written.{after, in_turn}
 use Rattle.base.proofs.wire.encoder.items.BinEncoder.emit_from.Given as goal
 
 -- how many items are still to be written at most
@@ -18,7 +18,8 @@ invariant-loop-next g l = record {
       × Keeps (state_of l.fn.self) (state_of l.self)
       × (state_of l.self ≡ after (in_turn g.E.BinEncodable.written xs) (state_of l.fn.self))
       × (l.count ≡ length xs)
-      × ((before : g.row.I.Denot) → g.I.Iterator.next_gives before (Some l.fn.first) l.fn.items → YieldsThen g.I.Iterator.next_gives before xs l.next l.items);
+      × ((before : g.row.I.Denot) → g.I.Iterator.next_gives before (Some l.fn.first) l.fn.items
+      → YieldsThen g.I.Iterator.next_gives before xs l.next l.items);
   goes : IfSome l.next (λ _. g.I.Iterator.can_next l.items × IsFinite (g.I.Iterator.remaining l.items)
       × (l.count + size (g.I.Iterator.remaining l.items) < 2 ^ 64 - 1));
 }

@@ -6,4 +6,5 @@ use Rattle.base_data.proofs.rdata.opt.display.OptionsHexDisplay.fmt.Given as goa
 
 abbrev pub invariant-loop-option : goal.invariant-loop-option
 invariant-loop-option g l =
-    IsPlainFormatter l.initial.f → HasWritten g.W.Write.write_str_gives l.initial.f (hex_text (options_wire (take l.option-index l.option-items))) l.f
+    IsPlainFormatter l.initial.f → HasWritten g.W.Write.write_str_gives l.initial.f
+    (hex_text (options_wire (take l.option-index l.option-items))) l.f

@@ -6,4 +6,5 @@ use Rattle.base_data.proofs.rdata.txt.display.StringTextDisplay.fmt.Given as goa
 
 abbrev pub invariant-loop-b : goal.invariant-loop-b
 invariant-loop-b g l =
-    IsPlainFormatter l.fn.f → HasWritten g.W.Write.write_str_gives l.fn.f (34 ∷ flat_map string_byte (take l.b-index l.b-items)) l.f
+    IsPlainFormatter l.fn.f → HasWritten g.W.Write.write_str_gives l.fn.f
+    (34 ∷ flat_map string_byte (take l.b-index l.b-items)) l.f

@@ -12,7 +12,8 @@ loop-string-preserved g c =
             _,
             has_written_append _ _ _ _ _ _ before.1
                 (c.in_ok-fmt.ensures.writes before.1.plain (refl {a = true})),
-            txt_text-step before.0 before.2 c.in-Some.ensures.strings c.in-Some.ensures.others c.is_empty-is_last.ensures,
+            txt_text-step before.0 before.2 c.in-Some.ensures.strings c.in-Some.ensures.others
+                c.is_empty-is_last.ensures,
           );
     }
 

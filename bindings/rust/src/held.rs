@@ -1,0 +1,123 @@
+//! A zone that is held from call to call.
+
+use crate::calls::{self, filled, ZoneHandle};
+use crate::error::Error;
+use std::fmt;
+use std::ptr;
+
+/// A zone: opened at a text, updated where it is, and written as text again.
+///
+/// ```
+/// let mut zone = fuzsbanel::Zone::open("example.", "@ 300 SOA ns hostmaster 1 2 3 4 5")?;
+/// let update = fuzsbanel::create(1, "example.", "www 300 A 192.0.2.1", false)?;
+/// assert_eq!(zone.update(&update), Ok(0)); // NoError
+/// assert_eq!(zone.update(&update), Ok(7)); // YXRRSet: the zone has such a set
+/// assert!(zone.text()?.ends_with("www.example. 300 IN A 192.0.2.1\n"));
+/// let query = b"\0\x09\x01\0\0\x01\0\0\0\0\0\0\x03www\x07example\0\0\x01\0\x01";
+/// let answer = zone.answer(query, Some(512))?.unwrap_or_default();
+/// assert!(fuzsbanel::text(&answer)?.contains("www.example. 300 IN A 192.0.2.1\n"));
+/// # Ok::<(), fuzsbanel::Error>(())
+/// ```
+pub struct Zone {
+    handle: ZoneHandle,
+}
+
+// SAFETY: what an open handle holds is memory of `malloc`'s that nothing else points to, and any thread may free that.
+unsafe impl Send for Zone {}
+
+impl Zone {
+    /// The zone of an origin, whose records are those of a text.
+    ///
+    /// # Errors
+    ///
+    /// The text's first fault; [`Error::NoOrigin`] for an empty origin, [`Error::NotOnWire`] for a relative name in data,
+    /// and [`Error::Class`] for a zone of another class than IN.
+    pub fn open(origin: &str, text: &str) -> Result<Zone, Error> {
+        let mut handle = ZoneHandle {
+            at: ptr::null_mut(),
+            is_open: false,
+        };
+        // SAFETY: the handle begins closed, and the texts are borrowed for the call.
+        let answer = unsafe {
+            calls::fuzsbanel_zone_open(
+                origin.as_ptr(),
+                origin.len(),
+                text.as_ptr(),
+                text.len(),
+                &mut handle,
+            )
+        };
+        calls::length(answer)?;
+        Ok(Zone { handle })
+    }
+
+    /// Carries out an update message, and answers the server's code (RFC 2136, 2.2): with 0, NoError, the zone is changed
+    /// (RFC 2136, 3), and with any other it is as it was. What it costs depends on what the update names alone. Who may
+    /// send an update is the caller's to ask, and so is the SOA's serial, which stays.
+    ///
+    /// # Errors
+    ///
+    /// The message's first fault. The zone is then as it was.
+    pub fn update(&mut self, update: &[u8]) -> Result<u16, Error> {
+        // SAFETY: the handle is open, of this value alone, and not copied; the bytes are borrowed for the call.
+        let answer = unsafe {
+            calls::fuzsbanel_zone_update(&mut self.handle, update.as_ptr(), update.len())
+        };
+        // A code has sixteen bits.
+        calls::length(answer).map(|code| code as u16)
+    }
+
+    /// The bytes that an authoritative server of the zone sends for those that it received, if it sends any (RFC 1034,
+    /// 4.3.2). `most` is how many bytes a datagram may have; of `None` a stream carries them. With less room than the answer
+    /// takes TC says so.
+    ///
+    /// # Errors
+    ///
+    /// That memory ran out.
+    pub fn answer(&mut self, received: &[u8], most: Option<u16>) -> Result<Option<Vec<u8>>, Error> {
+        let handle: *mut ZoneHandle = &mut self.handle;
+        let (limit, by_stream) = (most.unwrap_or(u16::MAX), most.is_none());
+        let sent = filled(512, |out, cap, needed| {
+            // SAFETY: as in `text`, and the bytes are borrowed for the call.
+            unsafe {
+                calls::fuzsbanel_zone_answer(
+                    handle,
+                    received.as_ptr(),
+                    received.len(),
+                    limit,
+                    by_stream,
+                    out,
+                    cap,
+                    needed,
+                )
+            }
+        })?;
+        Ok(Some(sent).filter(|sent| !sent.is_empty()))
+    }
+
+    /// The zone as text, which can be opened again with the same origin. A call that reads takes the handle for itself too.
+    ///
+    /// # Errors
+    ///
+    /// [`Error::TwoAnames`] where updates left an owner with two ANAME records, of which zone text has the last alone.
+    pub fn text(&mut self) -> Result<String, Error> {
+        let handle: *mut ZoneHandle = &mut self.handle;
+        calls::text(filled(4096, |out, cap, needed| {
+            // SAFETY: as in `update`, and `filled` hands in a buffer of its own.
+            unsafe { calls::fuzsbanel_zone_text(handle, out, cap, needed) }
+        })?)
+    }
+}
+
+impl Drop for Zone {
+    fn drop(&mut self) {
+        // SAFETY: as in `update`; nothing uses the handle afterwards.
+        unsafe { calls::fuzsbanel_zone_close(&mut self.handle) }
+    }
+}
+
+impl fmt::Debug for Zone {
+    fn fmt(&self, f: &mut fmt::Formatter<'_>) -> fmt::Result {
+        f.write_str("Zone")
+    }
+}

@@ -1,0 +1,198 @@
+-- What follows of what is answered.
+use Rattle.authority.specs.Answer.{AnswerValue, answer, answer_found, negative, of_data, owns, with_authority}
+use Rattle.authority.specs.Chain.IsChain.{ends, leads}
+use Rattle.authority.specs.Chain.{AreLed}
+use Rattle.authority.specs.Answer.{is_none}
+use Rattle.authority.specs.Lookup.{Alias, Cut, Data, Finding, NoName, Outside, lookup}
+use Rattle.base.specs.names.Labels.{NameValue}
+use Rattle.base.specs.declared.record_type.RecordType.{RecordType}
+use Rattle.base_data.specs.declared.rdata.RData.{RData}
+use Rattle.op.specs.declared.response_code.ResponseCode.TheVariants.{NXDomain, ServFail}
+use Rattle.op_use.specs.Zone.{Zone}
+use Rattle.rr.specs.declared.record.Record.{Record}
+use Rattle.std.proofs.Common.{ap, append_assoc, arith, inl, inr, refl, sym, ◌+◌, ◌++◌, ◌≤◌, ◌∙◌}
+use Rattle.std.proofs.lemmas.Bool.{false≢true}
+use Rattle.std.proofs.lemmas.List.{append-nil}
+use Rattle.std.specs.Prelude.{Bool, List, [], cond, false, not, suc, true, zero, ℕ, ◌∷◌, ◌≡◌}
+
+-- one of two answers
+either : (P : AnswerValue → Type 0) (b : Bool) (x y : AnswerValue) → P x → P y → P (cond b x y)
+either P true x y p q = p
+either P false x y p q = q
+
+some_more : (done : List (Record RData)) (r : Record RData) → is_none (done ++ r ∷ []) ≡ false
+some_more [] r = refl
+some_more (x ∷ xs) r = refl
+
+module _ (z : Zone) (t : RecordType) where
+  -- AA is set after an alias
+  abbrev HasAuthority : AnswerValue → Type 0
+  HasAuthority a = a.authoritative ≡ true
+
+  data_authority : (done : List (Record RData)) (n : NameValue) (rs : List (Record RData))
+      → HasAuthority (of_data z t done n rs)
+  data_authority done n [] = refl
+  data_authority done n (r ∷ rs) = refl
+
+  authority_after : (room : ℕ) (done : List (Record RData)) (n : NameValue) (f : Finding) → is_none done ≡ false
+      → HasAuthority (answer_found z t room done n f)
+  unfolding answer_found
+  authority_after room done n Outside h = refl
+  authority_after room done n NoName h = refl
+  authority_after room done n (Data rs) h = data_authority done n rs
+  authority_after room done n (Cut m) h = ap not h
+  authority_after zero done n (Alias r target) h = refl
+  authority_after (suc room) done n (Alias r target) h =
+      either HasAuthority (owns target (done ++ r ∷ [])) (with_authority ServFail (done ++ r ∷ []) [] [])
+      (answer_found z t room (done ++ r ∷ []) target (lookup z t target)) refl
+      (authority_after room (done ++ r ∷ []) target (lookup z t target) (some_more done r))
+
+  clear_by : (room : ℕ) (n : NameValue) (f : Finding) → (answer_found z t room [] n f).authoritative ≡ false
+      → (m : NameValue) × (f ≡ Cut m)
+  unfolding answer_found
+  clear_by room n Outside h = absurd (false≢true (sym h))
+  clear_by room n NoName h = absurd (false≢true (sym h))
+  clear_by room n (Data rs) h = absurd (false≢true (sym h ∙ data_authority [] n rs))
+  clear_by room n (Cut m) h = (m, refl)
+  clear_by zero n (Alias r target) h = absurd (false≢true (sym h))
+  clear_by (suc room) n (Alias r target) h = absurd (false≢true (sym h
+      ∙ either HasAuthority (owns target (r ∷ [])) (with_authority ServFail (r ∷ []) [] [])
+      (answer_found z t room (r ∷ []) target (lookup z t target)) refl
+      (authority_after room (r ∷ []) target (lookup z t target) refl)))
+
+  clear_at : (room : ℕ) (n : NameValue) (m : NameValue) → (answer_found z t room [] n (Cut m)).authoritative ≡ false
+  unfolding answer_found
+  clear_at room n m = refl
+
+  pub clear_in_referrals : (room : ℕ) (n : NameValue) → (answer z t room [] n).authoritative ≡ false
+      → (m : NameValue) × (lookup z t n ≡ Cut m)
+  clear_in_referrals room n h = clear_by room n (lookup z t n) h
+
+  pub referrals_are_clear : (room : ℕ) (n m : NameValue) → lookup z t n ≡ Cut m
+      → (answer z t room [] n).authoritative ≡ false
+  referrals_are_clear room n m h = ap (λ f. (answer_found z t room [] n f).authoritative) h ∙ clear_at room n m
+
+  -- no name
+  abbrev IsOfNoName : AnswerValue → Type 0
+  IsOfNoName a = a.code ≡ NXDomain
+      → (last : NameValue) × (lookup z t last ≡ NoName) × (a.authorities ≡ negative z last)
+
+  data_of_name : (done : List (Record RData)) (n : NameValue) (rs : List (Record RData))
+      → IsOfNoName (of_data z t done n rs)
+  data_of_name done n [] = λ h. cc
+  data_of_name done n (r ∷ rs) = λ h. cc
+
+  no_name_by : (room : ℕ) (done : List (Record RData)) (n : NameValue) (f : Finding) → lookup z t n ≡ f
+      → IsOfNoName (answer_found z t room done n f)
+  unfolding answer_found
+  no_name_by room done n Outside e = λ h. cc
+  no_name_by room done n NoName e = λ h. (n, e, refl)
+  no_name_by room done n (Data rs) e = data_of_name done n rs
+  no_name_by room done n (Cut m) e = λ h. cc
+  no_name_by zero done n (Alias r target) e = λ h. cc
+  no_name_by (suc room) done n (Alias r target) e =
+      either IsOfNoName (owns target (done ++ r ∷ [])) (with_authority ServFail (done ++ r ∷ []) [] [])
+      (answer_found z t room (done ++ r ∷ []) target (lookup z t target)) (λ h. cc)
+      (no_name_by room (done ++ r ∷ []) target (lookup z t target) refl)
+
+  pub no_name_is_of_last : (room : ℕ) (n : NameValue) → (answer z t room [] n).code ≡ NXDomain
+      → (last : NameValue) × (lookup z t last ≡ NoName) × ((answer z t room [] n).authorities ≡ negative z last)
+  no_name_is_of_last room n h = no_name_by room [] n (lookup z t n) refl h
+
+  -- the chain
+  abbrev IsLed : NameValue → ℕ → List (Record RData) → AnswerValue → Type 0
+  IsLed n most done a = (rs : List (Record RData)) × (a.answers ≡ done ++ rs) × AreLed z t n most rs
+
+  nothing_more : (n : NameValue) (most : ℕ) (done : List (Record RData)) (a : AnswerValue) → a.answers ≡ done
+      → IsLed n most done a
+  nothing_more n most done a e = (
+    [],
+    e ∙ sym (append-nil done),
+    record {
+      chain = [];
+      last = n;
+      records = [];
+      answers_are = refl;
+      is_chain = ends n;
+      short = omega arith;
+      found = inl refl;
+    },
+  )
+
+  of_records : (n : NameValue) (most : ℕ) (done rs : List (Record RData)) → lookup z t n ≡ Data rs
+      → IsLed n most done (of_data z t done n rs)
+  of_records n most done [] e = nothing_more n most done (of_data z t done n []) refl
+  of_records n most done (r ∷ rs) e = (
+    r ∷ rs,
+    refl,
+    record {
+      chain = [];
+      last = n;
+      records = r ∷ rs;
+      answers_are = refl;
+      is_chain = ends n;
+      short = omega arith;
+      found = inr e;
+    },
+  )
+
+  one_alias : (n target : NameValue) (most : ℕ) (done : List (Record RData)) (r : Record RData) (a : AnswerValue)
+      → lookup z t n ≡ Alias r target → 1 ≤ most → a.answers ≡ done ++ r ∷ [] → IsLed n most done a
+  one_alias n target most done r a e some h = (
+    r ∷ [],
+    h,
+    record {
+      chain = r ∷ [];
+      last = target;
+      records = [];
+      answers_are = refl;
+      is_chain = leads n target target r [] e (ends target);
+      short = some;
+      found = inl refl;
+    },
+  )
+
+  alias_before : (n target : NameValue) (most : ℕ) (done : List (Record RData)) (r : Record RData) (a : AnswerValue)
+      → lookup z t n ≡ Alias r target → IsLed target most (done ++ r ∷ []) a → IsLed n (suc most) done a
+  alias_before n target most done r a e led = (
+    r ∷ led.0,
+    led.1 ∙ append_assoc done (r ∷ []) led.0,
+    record {
+      chain = r ∷ led.2.chain;
+      last = led.2.last;
+      records = led.2.records;
+      answers_are = ap (λ xs. r ∷ xs) led.2.answers_are;
+      is_chain = leads n target led.2.last r led.2.chain e led.2.is_chain;
+      short = omega (arith, led.2.short);
+      found = led.2.found;
+    },
+  )
+
+  led_by : (room : ℕ) (done : List (Record RData)) (n : NameValue) (f : Finding) → lookup z t n ≡ f
+      → IsLed n (suc room) done (answer_found z t room done n f)
+  unfolding answer_found
+  led_by room done n Outside e = nothing_more n (suc room) done (answer_found z t room done n Outside) refl
+  led_by room done n NoName e = nothing_more n (suc room) done (answer_found z t room done n NoName) refl
+  led_by room done n (Data rs) e = of_records n (suc room) done rs e
+  led_by room done n (Cut m) e = nothing_more n (suc room) done (answer_found z t room done n (Cut m)) refl
+  led_by zero done n (Alias r target) e =
+      one_alias n target 1 done r (with_authority ServFail (done ++ r ∷ []) [] []) e (omega arith) refl
+  led_by (suc room) done n (Alias r target) e =
+      let failed : AnswerValue = with_authority ServFail (done ++ r ∷ []) [] [] in
+      let more : AnswerValue = answer_found z t room (done ++ r ∷ []) target (lookup z t target) in
+      either (IsLed n (suc (suc room)) done) (owns target (done ++ r ∷ [])) failed more
+      (one_alias n target (suc (suc room)) done r failed e (omega arith) refl)
+      (alias_before n target (suc room) done r more e (led_by room (done ++ r ∷ []) target (lookup z t target) refl))
+
+  pub answers_are_led : (room : ℕ) (n : NameValue) → AreLed z t n (room + 1) (answer z t room [] n).answers
+  answers_are_led room n =
+      let led = led_by room [] n (lookup z t n) refl in
+      record {
+        chain = led.2.chain;
+        last = led.2.last;
+        records = led.2.records;
+        answers_are = led.1 ∙ led.2.answers_are;
+        is_chain = led.2.is_chain;
+        short = omega (arith, led.2.short);
+        found = led.2.found;
+      }

@@ -1,0 +1,179 @@
+//! The records that are answered of what a zone has: of the owner that was asked for, with the least TTL of their set
+//! (RFC 2181, 5.2).
+
+ghost use Rattle.authority.specs.Answer.{as_negative, end_like as the_end, capped_ttl as the_capped_ttl};
+ghost use Rattle.authority.specs.Found.{answered, records_found};
+ghost use Rattle.authority.specs.Lookup.{least_ttl as the_least, shown};
+ghost use Rattle.base_data.specs.declared.rdata.RData.TheVariants as kinds;
+ghost use Rattle.op_use.specs.Applying.{data_in_set};
+ghost use Rattle.op_use.specs.NamedChanges.{datum_of};
+ghost use Rattle.std.specs.List.{flat_map};
+ghost use Rattle.std.specs.Prelude.{IfOk, IsOkUnless, OnOk, false, map, ◌++◌, ◌≡◌};
+
+use crate::found::Found;
+use base::{DNSClass, Name, ProtoError};
+use base_data::{CNAME, RData};
+use rr::{Record, RecordSet};
+use std::alloc::{AllocError, Global};
+
+/// The least TTL of the records that have a place in an answer (RFC 2181, 5.2); 0 where none has.
+fn least_ttl(records: &[Record]) -> u32
+    ensures { result ≡ the_least (shown (map datum_of records.now)) }
+{
+    let mut least: Option<u32> = None;
+    for record in records {
+        if record.rdata.is_update() {
+            continue;
+        }
+        least = match least {
+            Some(ttl) => Some(ttl.min(record.ttl)),
+            None => Some(record.ttl),
+        };
+    }
+    least.unwrap_or(0)
+}
+
+/// A record of this owner, class and TTL.
+fn record_of(owner: &Name, class: DNSClass, ttl: u32, rdata: &RData) -> Result<Record, AllocError>
+    ensures { IfOk result (λ r. r
+        ≡ record {
+          name = owner.now;
+          dns_class = class;
+          ttl = ttl;
+          rdata = rdata.now;
+          mdns_cache_flush = false;
+        }) }
+{
+    Ok(Record {
+        name: owner.clone()?,
+        dns_class: class,
+        ttl,
+        rdata: rdata.clone()?,
+        mdns_cache_flush: false,
+    })
+}
+
+/// Adds the records that are answered of a set.
+pub(crate) fn add_answered(
+    records: &mut Vec<Record>,
+    owner: &Name,
+    class: DNSClass,
+    set: &RecordSet,
+) -> Result<(), AllocError>
+    ensures { OnOk result
+        (records.new.items ≡ records.old.items ++ answered class owner.now set.now) }
+{
+    let entries = set.as_slice();
+    let ttl = least_ttl(entries);
+    for entry in entries {
+        if entry.rdata.is_update() {
+            continue;
+        }
+        let answer = record_of(owner, class, ttl, &entry.rdata)?;
+        records.push(answer)?;
+    }
+    Ok(())
+}
+
+/// Adds the records that are answered of sets.
+pub(crate) fn add_all(
+    records: &mut Vec<Record>,
+    owner: &Name,
+    class: DNSClass,
+    sets: &[&RecordSet],
+) -> Result<(), AllocError>
+    ensures { OnOk result (records.new.items
+        ≡ records.old.items ++ flat_map (λ s. answered class owner.now s.now) sets.now) }
+{
+    for set in sets {
+        add_answered(records, owner, class, set)?;
+    }
+    Ok(())
+}
+
+/// Adds the records that were found, if any were.
+pub(crate) fn add_found(
+    records: &mut Vec<Record>,
+    owner: &Name,
+    class: DNSClass,
+    found: &Found<'_>,
+) -> Result<(), AllocError>
+    ensures { OnOk result
+        (records.new.items ≡ records.old.items ++ records_found class owner.now found.now) }
+{
+    match found {
+        Found::Data(set) => add_answered(records, owner, class, set),
+        Found::All(sets) => add_all(records, owner, class, sets),
+        _ => Ok(()),
+    }
+}
+
+/// The record of the alias that stands first in a set and leads to this name.
+pub(crate) fn alias_record(
+    owner: &Name,
+    class: DNSClass,
+    set: &RecordSet,
+    target: &Name,
+) -> Result<Record, AllocError>
+    ensures { IfOk result (λ r. r
+        ≡ record {
+          name = owner.now;
+          dns_class = class;
+          ttl = the_least (shown (data_in_set set.now));
+          rdata = kinds.CNAME (record { name = target.now });
+          mdns_cache_flush = false;
+        }) }
+{
+    Ok(Record {
+        name: owner.clone()?,
+        dns_class: class,
+        ttl: least_ttl(set.as_slice()),
+        rdata: RData::CNAME(CNAME::new(target.clone()?)),
+        mdns_cache_flush: false,
+    })
+}
+
+/// The TTL of data in a negative answer: that of an SOA is no more than its MINIMUM (RFC 2308, 3 and 5).
+fn capped_ttl(rdata: &RData, ttl: u32) -> u32
+    ensures { result ≡ the_capped_ttl rdata.now ttl }
+{
+    match rdata {
+        RData::SOA(soa) => ttl.min(soa.minimum()),
+        _ => ttl,
+    }
+}
+
+/// The records that a set gives for a negative answer (RFC 2308, 3).
+pub(crate) fn negative_records(
+    alloc: Global,
+    owner: &Name,
+    class: DNSClass,
+    set: &RecordSet,
+) -> Result<Vec<Record>, AllocError>
+    ensures { IfOk result (λ v. v.items ≡ map as_negative (answered class owner.now set.now)) }
+{
+    let mut records = Vec::new(alloc);
+    let entries = set.as_slice();
+    let least = least_ttl(entries);
+    for entry in entries {
+        if entry.rdata.is_update() {
+            continue;
+        }
+        let ttl = capped_ttl(&entry.rdata, least);
+        let answer = record_of(owner, class, ttl, &entry.rdata)?;
+        records.push(answer)?;
+    }
+    Ok(records)
+}
+
+/// The end of a name that has as many labels as another.
+pub(crate) fn end_like(other: &Name, name: &Name) -> Result<Name, ProtoError>
+    ensures value { IfOk result (λ n. n ≡ the_end other.now name.now) }
+    ensures only { IsOkUnless result ProtoError.Memory }
+{
+    let mut end = name.clone()?;
+    while other.label_count() < end.label_count() {
+        end = end.base_name()?;
+    }
+    Ok(end)
+}

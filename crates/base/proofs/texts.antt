@@ -1,0 +1,21 @@
+-- Zone text: its tokens, and the texts of names, types, classes and TTLs.
+pub mod CharLemmas
+pub mod ClassTexts
+pub mod Cutting
+pub mod EscapeLemmas
+pub mod Giving
+pub mod ListItems
+pub mod ListingLemmas
+pub mod NameOfLaws
+pub mod NameOfLemmas
+pub mod NamedLemmas
+pub mod ParseLemmas
+pub mod ReadTexts
+pub mod ShapeLemmas
+pub mod TakingLemmas
+pub mod TextLawLemmas
+pub mod TextLemmas
+pub mod TokenLemmas
+pub mod TtlLawLemmas
+pub mod TtlLemmas
+pub mod TypeTexts

@@ -1,0 +1,134 @@
+-- What calls on a zone that a caller holds make and answer.
+use Rattle.std.specs.List.{list_any}
+use Rattle.std.specs.Prelude.{Err, List, None, Ok, Option, Result, Some, false, if◌then◌else◌, neg_ℤ, option_map, pos}
+use Rattle.std.specs.Prelude.{Bool, [], true, ℕ, ℤ}
+use Rattle.std.specs.Prelude.{◌≡◌, ◌⊎◌}
+use Rattle.base.specs.names.Labels.{NameValue}
+use Rattle.base.specs.declared.dns_class.DNSClass.TheVariants as classes
+use Rattle.base.specs.declared.rr_key.RrKey.{RrKey}
+use Rattle.op.specs.Message.{MessageValue}
+use Rattle.op.specs.ResponseCode.{code_number}
+use Rattle.op.specs.declared.response_code.ResponseCode.{ResponseCode}
+use Rattle.authority.specs.Sent.{sent}
+use Rattle.authority.specs.declared.sending.Carrier.TheVariants as carriers
+use Rattle.authority.specs.declared.sending.Carrier.{Carrier}
+use Rattle.base.specs.ProtoError.{proto_number}
+use Rattle.base.specs.declared.error.proto_error.ProtoError.{ProtoError}
+use Rattle.op_use.specs.Applying.{HasSameSets, IsApplied, zone_of_map}
+use Rattle.op_use.specs.Server.{sections_of}
+use Rattle.parsed_zone.specs.Classes.{are_sets_in}
+use Rattle.parsed_zone.specs.ZoneText.{zone_lines}
+use Rattle.rr.specs.RecordSet.{SetValue}
+use Rattle.txt.specs.ZoneSets.{ZoneSets}
+use Rattle.capi.specs.Answer.{Asked}
+use Rattle.capi.specs.Applied.{are_anames}
+use Rattle.capi.specs.Message.{message_of}
+use Rattle.capi.specs.Refusals.{closed, not_on_wire, other_class, two_anames}
+use Rattle.capi.specs.ZoneText.{FitsWire, IsZoneText, zone_asked}
+use Rattle.capi.specs.declared.refusal.Refusal.{Refusal}
+use Rattle.capi.specs.declared.zone_handle.held.HeldZone.{HeldZone}
+
+-- a zone's origin and its sets
+abbrev pub ZoneParts : Type 0
+ZoneParts = NameValue × ZoneSets
+
+-- those of a zone that is held
+abbrev pub parts_of : HeldZone → ZoneParts
+parts_of zone = (zone.origin, zone.sets.entries)
+
+-- ---- opening
+
+-- What comes of a zone that is asked for: that zone, if it can stand on the wire and is of the class IN.
+pub data IsHeld (asked : Asked ZoneParts) : Asked ZoneParts → Type 0 where
+  refused : {number : ℕ} → asked ≡ Err number → IsHeld asked (Err number)
+  unfit : {x : ZoneParts} → asked ≡ Ok x → ¬ FitsWire x.1 → IsHeld asked (Err not_on_wire)
+  foreign : {x : ZoneParts} → asked ≡ Ok x → FitsWire x.1 → are_sets_in x.1 ≡ false
+      → IsHeld asked (Err other_class)
+  whole : {x : ZoneParts} → asked ≡ Ok x → FitsWire x.1 → are_sets_in x.1 ≡ true
+      → IsHeld asked (Ok x)
+
+-- the zone that was made, or the number of the refusal
+abbrev pub parts_made : {X : Type 0} → (X → HeldZone) → Result X Refusal → Asked ZoneParts
+parts_made view (Ok x) = Ok (parts_of (view x))
+parts_made view (Err refusal) = Err refusal.number
+
+-- What was made comes of this origin and this text; or memory ran out.
+abbrev pub Opens : {X : Type 0} → (X → HeldZone) → List ℕ → List ℕ → Result X Refusal → Type 0
+Opens view origin text made = IsHeld (zone_asked origin text) (parts_made view made)
+    ⊎ (parts_made view made ≡ Err 3)
+
+-- The handle holds the zone that was made, and 0 is answered; or it holds what it held, and a refusal is.
+abbrev pub IsOpen : Asked ZoneParts → Option HeldZone → Option HeldZone → ℤ → Type 0
+IsOpen (Ok parts) old new result = (option_map parts_of new ≡ Some parts) × (result ≡ pos 0)
+IsOpen (Err number) old new result = (new ≡ old) × (result ≡ neg_ℤ (pos number))
+
+-- That is so of what comes of this origin and this text, or memory ran out.
+abbrev pub IsOpened : List ℕ → List ℕ → Option HeldZone → Option HeldZone → ℤ → Type 0
+IsOpened origin text old new result =
+    ((made : Asked ZoneParts) × IsHeld (zone_asked origin text) made × IsOpen made old new result)
+    ⊎ IsOpen (Err 3) old new result
+
+-- ---- updating
+
+-- The zone is what a server makes of the update that the bytes begin with, and the code is answered.
+pub record IsServed (update : List ℕ) (old new : HeldZone) (result : ℤ) : Type 0 where
+  pub message : MessageValue
+  pub read : message_of update ≡ Ok message
+  pub code : ResponseCode
+  pub applied : IsApplied old.origin classes.IN (sections_of message) old.sets code new.sets
+  pub is : result ≡ pos (code_number code)
+
+-- Each set stays as it was; the bytes begin with no message, or memory ran out.
+pub record IsSpared (update : List ℕ) (old new : HeldZone) (result : ℤ) : Type 0 where
+  pub sets : HasSameSets old.sets new.sets
+  pub number : ℕ
+  pub why : (number ≡ 3) ⊎ (message_of update ≡ Err number)
+  pub is : result ≡ neg_ℤ (pos number)
+
+-- One of both; and the origin stays in any case.
+abbrev pub IsUpdated : List ℕ → HeldZone → HeldZone → ℤ → Type 0
+IsUpdated update old new result = (new.origin ≡ old.origin)
+    × (IsServed update old new result ⊎ IsSpared update old new result)
+
+-- The zone of the handle is updated so; a closed handle stays closed, and says so.
+abbrev pub IsUpdating : List ℕ → Option HeldZone → Option HeldZone → ℤ → Type 0
+IsUpdating update None new result = (new ≡ None) × (result ≡ neg_ℤ (pos closed))
+IsUpdating update (Some old) new result =
+    (zone : HeldZone) × (new ≡ Some zone) × IsUpdated update old zone result
+
+-- ---- answering
+
+-- what carries an answer: a stream, or a datagram of so many bytes at most
+abbrev pub carrier : ℕ → Bool → Carrier
+carrier most by_stream = if by_stream then carriers.Stream else carriers.Datagram most
+
+-- the bytes that are sent, none where nothing is
+abbrev pub bytes_sent : Result (Option (List ℕ)) ProtoError → Asked (List ℕ)
+bytes_sent (Ok (Some bytes)) = Ok bytes
+bytes_sent (Ok None) = Ok []
+bytes_sent (Err e) = Err (proto_number e)
+
+-- what a server of a zone sends for the bytes that it received
+abbrev pub answer_of : HeldZone → Carrier → List ℕ → Asked (List ℕ)
+answer_of zone by received = bytes_sent (sent (zone_of_map zone.origin classes.IN zone.sets) by received)
+
+-- the same of a handle, which may be closed
+abbrev pub answer_asked : Option HeldZone → Carrier → List ℕ → Asked (List ℕ)
+answer_asked None by received = Err closed
+answer_asked (Some zone) by received = answer_of zone by received
+
+-- ---- text
+
+-- the lines of a zone, unless the text would be read otherwise
+abbrev pub lines_of : ZoneParts → Asked (List ℕ)
+lines_of x = if list_any (λ (e : RrKey × SetValue). are_anames e.0 e.1.records) x.1
+    then Err two_anames else Ok (zone_lines x)
+
+-- what comes of the text of a zone
+abbrev pub IsTextOf : HeldZone → Asked (List ℕ) → Type 0
+IsTextOf zone = IsZoneText (λ (x : ZoneParts). x.1) lines_of (Ok (parts_of zone))
+
+-- the same of a handle, which may be closed
+abbrev pub IsHeldText : Option HeldZone → Asked (List ℕ) → Type 0
+IsHeldText None made = made ≡ Err closed
+IsHeldText (Some zone) made = IsTextOf zone made

@@ -1,0 +1,135 @@
+//! A zone that is held: each export on it, over updates of RFC 2136.
+
+use crate::update::{fuzsbanel_create, fuzsbanel_delete_all};
+use crate::zone_handle::handle::ZoneHandle;
+use crate::zone_handle::{
+    free, fuzsbanel_zone_answer, fuzsbanel_zone_close, fuzsbanel_zone_open, fuzsbanel_zone_text,
+    fuzsbanel_zone_update,
+};
+use std::alloc::Global;
+
+const ORIGIN: &[u8] = b"example.";
+
+const ZONE: &[u8] = b"@ 60 NS ns\nns 60 A 192.0.2.1\n";
+
+const WWW: &[u8] = b"www 300 A 192.0.2.2\n";
+
+/// What is answered to each call on a closed handle, the text last.
+#[test]
+fn a_closed_handle_says_so(rt: HostRuntime) {
+    let mut handle = ZoneHandle::closed();
+    let mut out = [7; 8];
+    let mut needed = 9;
+    let updated = fuzsbanel_zone_update(rt.alloc(), &mut handle, WWW);
+    let written = fuzsbanel_zone_text(rt.alloc(), &mut handle, &mut out, &mut needed);
+    fuzsbanel_zone_close(rt.alloc(), &mut handle);
+    free(rt.alloc(), handle);
+    assert!(rt; updated == -34 && written == -34 && needed == 0 && out[0] == 7);
+}
+
+/// What opening a handle at these answers, which is closed again.
+fn opened(alloc: Global, origin: &[u8], text: &[u8]) -> i64 {
+    let mut handle = ZoneHandle::closed();
+    let answer = fuzsbanel_zone_open(alloc, origin, text, &mut handle);
+    fuzsbanel_zone_close(alloc, &mut handle);
+    free(alloc, handle);
+    answer
+}
+
+#[test]
+fn a_zone_is_opened_or_refused(rt: HostRuntime) {
+    let rows: &[(&[u8], &[u8], i64)] = &[
+        (ORIGIN, ZONE, 0),
+        (ORIGIN, b"", 0),
+        (ORIGIN, b"www 300 A", -23),
+        (ORIGIN, b"www 300 A \xff", -24),
+        (ORIGIN, b"www 300 CH A 192.0.2.1", -25),
+        (b"", ZONE, -26),
+        (ORIGIN, b"$ORIGIN a\nwww.example. 5 MX 10 \"@\"", -31),
+    ];
+    for &(origin, text, wanted) in rows {
+        assert!(rt; opened(rt.alloc(), origin, text) == wanted);
+    }
+}
+
+/// A query for the address of `ns.example.`, and what is sent for it: id, QR, AA and RD, the question, and the record
+/// (RFC 1035, 4.1).
+const QUERY: &[u8] = b"\0\x09\x01\0\0\x01\0\0\0\0\0\0\x02ns\x07example\0\0\x01\0\x01";
+
+const ANSWER: &[u8] = b"\0\x09\x85\0\0\x01\0\x01\0\0\0\0\x02ns\x07example\0\0\x01\0\x01\
+\xc0\x0c\0\x01\0\x01\0\0\0\x3c\0\x04\xc0\0\x02\x01";
+
+#[test]
+fn a_zone_answers(rt: HostRuntime) {
+    let mut handle = ZoneHandle::closed();
+    let mut out = [7; 64];
+    let mut needed = 0;
+    let opened = fuzsbanel_zone_open(rt.alloc(), ORIGIN, ZONE, &mut handle);
+    // the received bytes, by a stream or in a datagram, and what is sent: nothing for a response, or for no header
+    let rows: &[(&[u8], bool, &[u8])] = &[
+        (QUERY, false, ANSWER),
+        (QUERY, true, ANSWER),
+        (ANSWER, true, b""),
+        (b"\0\x09\x01\0\0\x01", false, b""),
+        (
+            b"\0\x09\x01\0\0\x01\0\0\0\0\0\0\xc0\x0c",
+            false,
+            b"\0\x09\x81\x01\0\0\0\0\0\0\0\0",
+        ),
+    ];
+    let mut are_sent = true;
+    for &(received, by_stream, wanted) in rows {
+        let alloc = rt.alloc();
+        let len = fuzsbanel_zone_answer(
+            alloc,
+            &mut handle,
+            received,
+            512,
+            by_stream,
+            &mut out,
+            &mut needed,
+        );
+        are_sent = are_sent && len == wanted.len() as i64 && out.starts_with(wanted);
+    }
+    fuzsbanel_zone_close(rt.alloc(), &mut handle);
+    free(rt.alloc(), handle);
+    assert!(rt; opened == 0 && are_sent);
+}
+
+/// What a zone answers to an update of so many bytes.
+fn code(alloc: Global, handle: &mut ZoneHandle, update: &[u8], len: i64) -> i64 {
+    if len < 0 || len as usize > update.len() {
+        return len;
+    }
+    fuzsbanel_zone_update(alloc, handle, &update[..len as usize])
+}
+
+#[test]
+fn a_zone_is_updated_where_it_is(rt: HostRuntime) {
+    let mut handle = ZoneHandle::closed();
+    let mut out = [0; 256];
+    let mut needed = 0;
+    let opened = fuzsbanel_zone_open(rt.alloc(), ORIGIN, ZONE, &mut handle);
+    let len = fuzsbanel_create(rt.alloc(), 1, ORIGIN, WWW, false, &mut out, &mut needed);
+    let first = code(rt.alloc(), &mut handle, &out, len);
+    let again = code(rt.alloc(), &mut handle, &out, len);
+    let cut = code(rt.alloc(), &mut handle, &out, 11);
+    let refused = fuzsbanel_zone_open(rt.alloc(), ORIGIN, b"www 300 A", &mut handle);
+    let len = fuzsbanel_delete_all(rt.alloc(), 2, ORIGIN, b"ns", false, &mut out, &mut needed);
+    let gone = code(rt.alloc(), &mut handle, &out, len);
+    let mut small = [0; 78];
+    let none = fuzsbanel_zone_text(rt.alloc(), &mut handle, &mut small, &mut needed);
+    let written = fuzsbanel_zone_text(rt.alloc(), &mut handle, &mut out, &mut needed);
+    fuzsbanel_zone_close(rt.alloc(), &mut handle);
+    free(rt.alloc(), handle);
+    let lines: &[u8] = b"$ORIGIN example.\nexample. 60 IN NS ns.example.\n\
+www.example. 300 IN A 192.0.2.2\n";
+    let are_lines = out.starts_with(lines);
+    // NoError and YXRRSet (RFC 2136, 2.2); then a message that is cut off, and a text that is none
+    assert!(rt;
+        opened == 0 && first == 0 && again == 7 && cut == -4 && refused == -23 && gone == 0
+    );
+    assert!(rt;
+        none == -100 && written == lines.len() as i64 && needed == lines.len() && are_lines
+    );
+}

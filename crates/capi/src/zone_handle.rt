@@ -1,0 +1,270 @@
+//! A zone that a caller holds from call to call: opened from text, updated where it is, written as text, closed.
+//!
+//! A handle begins as closed, its bytes all zero. One call at a time uses it, and it is moved, never copied: its fields
+//! are the library's. Of a closed handle every call answers 34, but the one that opens it and the one that closes it.
+
+ghost use Rattle.std.specs.List.{list_any};
+ghost use Rattle.std.specs.Option.{option_map};
+ghost use Rattle.std.specs.Prelude.{◌≡◌, None, Some, false};
+ghost use Rattle.capi.specs.Answer.{IsAnswered, IsAnsweredBy, Makes, MakesBy};
+ghost use Rattle.capi.specs.ZoneHandle.{answer_asked, answer_of, carrier, IsHeldText, IsOpened, IsTextOf, IsUpdated, IsUpdating, Opens};
+
+pub mod handle;
+mod held;
+mod loose;
+
+use crate::answer::{give, number};
+use crate::applied::has_two_anames;
+use crate::fits::fits_wire;
+use crate::message::message_of;
+use crate::refusal::Refusal;
+use crate::zone::zone_asked;
+use authority::{Carrier, respond};
+use base::{DNSClass, Name};
+use handle::ZoneHandle;
+use held::HeldZone;
+use loose::Loose;
+use op_use::update_in_place;
+use parsed_zone::{are_sets_in, zone_lines};
+use std::alloc::{AllocError, Global};
+use std::collections::BTreeMap;
+use std::mem;
+
+/// Opens a handle at the zone of an origin, whose records are those of a text, and answers 0. What the handle held
+/// before is freed. The text is read as `fuzsbanel_apply` reads one: an `$ORIGIN` of it is that of names, and never of
+/// the zone.
+///
+/// # Errors
+///
+/// 26 for an origin without bytes, and those of `fuzsbanel_zone`; 25 for a set or a record of another class than IN. The
+/// handle then holds what it held.
+#[unsafe(no_mangle)]
+pub extern "C" fn fuzsbanel_zone_open(
+    alloc: Global,
+    origin: &[u8],
+    text: &[u8],
+    handle: &mut ZoneHandle,
+) -> i64
+    ensures { IsOpened origin.now text.now handle.old.zone handle.new.zone result }
+{
+    match boxed_zone(alloc, origin, text) {
+        Ok(zone) => {
+            let new = ZoneHandle::of(Loose::of(zone));
+            free(alloc, mem::replace(handle, new));
+            0
+        }
+        Err(refusal) => number(Err(refusal)),
+    }
+}
+
+/// Applies an update to the zone, where it is, and answers the server's code (RFC 2136, 2.2 and 3): 0 for NoError, and
+/// the zone is changed. With any other code, and where the call is refused, each set stays as it was. An update costs
+/// what it names, and no more for a larger zone. The SOA's serial stays as it is.
+///
+/// # Errors
+///
+/// 34 for a closed handle, and the number of the update's first fault.
+#[unsafe(no_mangle)]
+pub extern "C" fn fuzsbanel_zone_update(
+    alloc: Global,
+    handle: &mut ZoneHandle,
+    update: &[u8],
+) -> i64
+    ensures { IsUpdating update.now handle.old.zone handle.new.zone result }
+{
+    match take(alloc, handle) {
+        Some(mut zone) => {
+            let code = update_zone(alloc, &mut zone, update);
+            put(handle, zone);
+            code
+        }
+        None => number(Err(Refusal::CLOSED)),
+    }
+}
+
+/// Writes the zone into the caller's buffer as text: its origin, and each record on a line of its own, as `fuzsbanel_zone`
+/// writes them. A handle that is opened at this text, with this origin, holds the same records.
+///
+/// # Errors
+///
+/// 34 for a closed handle, and 33 where updates left an owner with two ANAME records, of which zone text has the last
+/// alone.
+#[unsafe(no_mangle)]
+pub extern "C" fn fuzsbanel_zone_text(
+    alloc: Global,
+    handle: &mut ZoneHandle,
+    out: &mut [u8],
+    needed: &mut usize,
+) -> i64
+    ensures zone { handle.new.zone ≡ handle.old.zone }
+    ensures text { IsAnsweredBy (IsHeldText handle.old.zone) out.old out.new needed.new result }
+{
+    match take(alloc, handle) {
+        Some(zone) => {
+            let made = text_of(alloc, &zone);
+            put(handle, zone);
+            give(made, out, needed)
+        }
+        None => give(Err(Refusal::CLOSED), out, needed),
+    }
+}
+
+/// Writes the bytes that an authoritative server of the zone sends for those that it received into the caller's buffer: 0
+/// bytes where nothing is sent, as for a response. A datagram has at most as many bytes as `most` and the query's EDNS say,
+/// and 512 at least; a stream carries 65,535, and `most` isn't looked at.
+///
+/// # Errors
+///
+/// 34 for a closed handle.
+#[unsafe(no_mangle)]
+pub extern "C" fn fuzsbanel_zone_answer(
+    alloc: Global,
+    handle: &mut ZoneHandle,
+    received: &[u8],
+    most: u16,
+    by_stream: bool,
+    out: &mut [u8],
+    needed: &mut usize,
+) -> i64
+    ensures zone { handle.new.zone ≡ handle.old.zone }
+    ensures answer { IsAnswered (answer_asked handle.old.zone (carrier most by_stream) received.now)
+        out.old out.new needed.new result }
+{
+    match take(alloc, handle) {
+        Some(zone) => {
+            let sent = answer_of(alloc, &zone, received, carrier(most, by_stream));
+            put(handle, zone);
+            give(sent, out, needed)
+        }
+        None => give(Err(Refusal::CLOSED), out, needed),
+    }
+}
+
+/// Closes a handle, and frees what it held. Of a closed handle nothing is done.
+#[unsafe(no_mangle)]
+pub extern "C" fn fuzsbanel_zone_close(alloc: Global, handle: &mut ZoneHandle)
+    ensures { handle.new.zone ≡ None }
+{
+    free(alloc, mem::replace(handle, ZoneHandle::closed()));
+}
+
+/// The zone of an origin, with the sets of a text, on the heap.
+fn boxed_zone(alloc: Global, origin: &[u8], text: &[u8]) -> Result<Box<HeldZone, Global>, Refusal>
+    ensures { Opens (λ zone. zone.value) origin.now text.now result }
+{
+    let zone = zone_of(alloc, origin, text)?;
+    match Box::new(alloc, zone) {
+        Ok(boxed) => Ok(boxed),
+        Err(e) => Err(AllocError::from(e).into()),
+    }
+}
+
+/// The zone of an origin, with the sets of a text.
+fn zone_of(alloc: Global, origin: &[u8], text: &[u8]) -> Result<HeldZone, Refusal>
+    ensures { Opens (λ zone. zone) origin.now text.now result }
+{
+    let (origin, sets) = zone_asked(alloc, origin, text)?;
+    if !fits_wire(&sets) {
+        return Err(Refusal::NOT_ON_WIRE);
+    }
+    if !are_sets_in(&sets) {
+        return Err(Refusal::CLASS);
+    }
+    Ok(HeldZone { origin, sets })
+}
+
+/// Applies an update to a zone, and answers its code, or minus the number of a refusal.
+fn update_zone(alloc: Global, zone: &mut HeldZone, update: &[u8]) -> i64
+    ensures { IsUpdated update.now zone.old zone.new result }
+{
+    let message = match message_of(alloc, update) {
+        Ok(message) => message,
+        Err(refusal) => return number(Err(refusal)),
+    };
+    let empty = HeldZone {
+        origin: Name::root(alloc),
+        sets: BTreeMap::new(alloc),
+    };
+    let HeldZone { origin, mut sets } = mem::replace(zone, empty);
+    let answer = update_in_place(alloc, &mut sets, &origin, DNSClass::IN, &message);
+    *zone = HeldZone { origin, sets };
+    match answer {
+        Ok(code) => i64::from(u16::from(code)),
+        Err(e) => number(Err(Refusal::from(e))),
+    }
+}
+
+/// What carries an answer.
+fn carrier(most: u16, by_stream: bool) -> Carrier
+    ensures { result ≡ carrier most by_stream }
+{
+    if by_stream {
+        Carrier::Stream
+    } else {
+        Carrier::Datagram(most)
+    }
+}
+
+/// The bytes that are sent for those that came, none where nothing is.
+fn answer_of(
+    alloc: Global,
+    zone: &HeldZone,
+    received: &[u8],
+    carrier: Carrier,
+) -> Result<Vec<u8>, Refusal>
+    ensures { Makes (λ sent. sent.items) (answer_of zone.now carrier received.now) result }
+{
+    let sent = respond(
+        alloc,
+        &zone.sets,
+        &zone.origin,
+        DNSClass::IN,
+        received,
+        carrier,
+    )?;
+    Ok(sent.unwrap_or(Vec::new(alloc)))
+}
+
+/// The text of a zone.
+fn text_of(alloc: Global, zone: &HeldZone) -> Result<Vec<u8>, Refusal>
+    ensures { MakesBy (IsTextOf zone.now) result }
+{
+    if !fits_wire(&zone.sets) {
+        return Err(Refusal::NOT_ON_WIRE);
+    }
+    if has_two_anames(&zone.sets) {
+        return Err(Refusal::TWO_ANAMES);
+    }
+    Ok(zone_lines(alloc, &zone.origin, zone.sets.clone()?)?.into_bytes())
+}
+
+/// Takes the zone out of a handle, which is then closed.
+fn take(alloc: Global, handle: &mut ZoneHandle) -> Option<Box<HeldZone, Global>>
+    ensures zone { option_map (λ zone. zone.value) result ≡ handle.old.zone }
+    ensures closed { (handle.new.is_open ≡ false) × (handle.new.zone ≡ None) }
+{
+    let (is_open, was) = mem::replace(handle, ZoneHandle::closed()).look();
+    if is_open {
+        return Some(was.into_zone(alloc).into_box());
+    }
+    was.end();
+    None
+}
+
+/// Puts a zone into a closed handle.
+fn put(handle: &mut ZoneHandle, zone: Box<HeldZone, Global>)
+    requires { handle.old.is_open ≡ false }
+    ensures { handle.new.zone ≡ Some zone.value }
+{
+    mem::replace(handle, ZoneHandle::of(Loose::of(zone))).end();
+}
+
+/// Frees what a handle held.
+pub fn free(alloc: Global, handle: ZoneHandle) {
+    let (is_open, was) = handle.look();
+    if is_open {
+        drop(was.into_zone(alloc).into_box());
+    } else {
+        was.end();
+    }
+}
