@@ -52,6 +52,9 @@ fn a_zone_is_opened_or_refused(rt: HostRuntime) {
     }
 }
 
+/// A zone with an SOA: one without is answered ServFail.
+const SERVED: &[u8] = b"@ 60 SOA ns ns 1 2 3 4 5\nns 60 A 192.0.2.1\n";
+
 /// A query for the address of `ns.example.`, and what is sent for it: id, QR, AA and RD, the question, and the record
 /// (RFC 1035, 4.1).
 const QUERY: &[u8] = b"\0\x09\x01\0\0\x01\0\0\0\0\0\0\x02ns\x07example\0\0\x01\0\x01";
@@ -64,7 +67,7 @@ fn a_zone_answers(rt: HostRuntime) {
     let mut handle = ZoneHandle::closed();
     let mut out = [7; 64];
     let mut needed = 0;
-    let opened = fuzsbanel_zone_open(rt.alloc(), ORIGIN, ZONE, &mut handle);
+    let opened = fuzsbanel_zone_open(rt.alloc(), ORIGIN, SERVED, &mut handle);
     // the received bytes, by a stream or in a datagram, and what is sent: nothing for a response, or for no header
     let rows: &[(&[u8], bool, &[u8])] = &[
         (QUERY, false, ANSWER),
