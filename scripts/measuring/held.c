@@ -1,29 +1,31 @@
-/* Carries out the updates on its input again and again in one zone that is held, so that the cost can be counted:
- * `held TIMES ZONE`. ZONE is the zone text of `example.`; an update stands on a line, in hexadecimal. Prints the sum of the
- * codes. */
+/* Hands the messages on its input again and again to one zone that is held, so that the cost can be counted:
+ * `held update TIMES ZONE` or `held answer TIMES ZONE`. ZONE is the zone text of `example.`; a message stands on a line, in
+ * hexadecimal. Prints the sum of the codes, or of the lengths of the answers. */
 #include "fuzsbanel.h"
 
 #include <inttypes.h>
+#include <stdbool.h>
 #include <stdio.h>
 #include <stdlib.h>
 #include <string.h>
 
 #define ORIGIN "example."
-#define UPDATES 4
+#define MESSAGES 4
 #define LONGEST 4096
+#define DATAGRAM 512
 
-static uint8_t updates[UPDATES][LONGEST];
-static size_t lengths[UPDATES];
+static uint8_t messages[MESSAGES][LONGEST];
+static size_t lengths[MESSAGES];
 
-/* Reads the updates, and answers how many they are. */
-static size_t read_updates(void)
+/* Reads the messages, and answers how many they are. */
+static size_t read_messages(void)
 {
     static char line[2 * LONGEST + 2];
     size_t count = 0;
-    while (count < UPDATES && fgets(line, sizeof line, stdin)) {
+    while (count < MESSAGES && fgets(line, sizeof line, stdin)) {
         unsigned byte;
         for (size_t at = 0; sscanf(line + 2 * at, "%2x", &byte) == 1; at++) {
-            updates[count][at] = (uint8_t)byte;
+            messages[count][at] = (uint8_t)byte;
             lengths[count] = at + 1;
         }
         count++;
@@ -31,10 +33,20 @@ static size_t read_updates(void)
     return count;
 }
 
+/* Hands one message to the zone, and answers the code, or how long the answer is. */
+static int64_t handed(bool is_update, struct fuzsbanel_zone_handle *zone, size_t i)
+{
+    static uint8_t out[LONGEST];
+    size_t needed;
+    if (is_update)
+        return fuzsbanel_zone_update(zone, messages[i], lengths[i]);
+    return fuzsbanel_zone_answer(zone, messages[i], lengths[i], DATAGRAM, false, out, sizeof out, &needed);
+}
+
 int main(int argc, char **argv)
 {
     struct fuzsbanel_zone_handle zone = {0};
-    FILE *file = argc == 3 ? fopen(argv[2], "rb") : NULL;
+    FILE *file = argc == 4 ? fopen(argv[3], "rb") : NULL;
     if (!file || fseek(file, 0, SEEK_END) != 0)
         return 2;
     size_t len = (size_t)ftell(file);
@@ -44,10 +56,11 @@ int main(int argc, char **argv)
         return 2;
     fclose(file);
     int64_t sum = fuzsbanel_zone_open((const uint8_t *)ORIGIN, strlen(ORIGIN), text, len, &zone);
-    size_t count = read_updates();
-    for (long times = atol(argv[1]); times > 0; times--)
+    size_t count = read_messages();
+    bool is_update = strcmp(argv[1], "update") == 0;
+    for (long times = atol(argv[2]); times > 0; times--)
         for (size_t i = 0; i < count; i++)
-            sum += fuzsbanel_zone_update(&zone, updates[i], lengths[i]);
+            sum += handed(is_update, &zone, i);
     printf("%" PRId64 "\n", sum);
     fuzsbanel_zone_close(&zone);
     free(text);
