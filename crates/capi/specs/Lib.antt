@@ -2,7 +2,9 @@ pub mod Answer
 pub mod Applied
 pub mod Header
 pub mod Message
+pub mod Query
 pub mod Refusals
+pub mod Response
 pub mod Update
 pub mod Walk
 pub mod WalkWhole

@@ -9,7 +9,9 @@ mod applied;
 mod fits;
 mod header;
 mod message;
+mod query;
 mod refusal;
+mod response;
 #[cfg(test)]
 mod tests;
 mod update;
