@@ -3,7 +3,7 @@
 
 Everything here is a call of include/fuzsbanel.h, whose comments say what each does; this file adds bytes, exceptions and
 generators, and no logic of DNS. It needs Python 3.8 or later, and the shared object that `make -C bindings/c` builds in
-bindings/c/build, or the one that FUZSBANEL_LIB names.
+bindings/c/build, which `pip install ./bindings/python` puts beside it, or the one that FUZSBANEL_LIB names.
 
     >>> import fuzsbanel
     >>> query = bytes.fromhex("00010100000100000000000001610000010001")
@@ -46,7 +46,9 @@ __all__ = [
     "records", "text", "walk", "zone", "zone_transfer",
 ]
 
-BUILT = os.path.normpath(os.path.join(os.path.dirname(os.path.realpath(__file__)), "../c/build/libfuzsbanel.so"))
+HERE = os.path.dirname(os.path.realpath(__file__))
+BUILT = os.path.normpath(os.path.join(HERE, "../c/build/libfuzsbanel.so"))
+INSTALLED = os.path.join(HERE, "libfuzsbanel.so")
 
 
 def loaded(path: str) -> ctypes.CDLL:
@@ -62,7 +64,7 @@ def loaded(path: str) -> ctypes.CDLL:
     return ctypes.CDLL(path)
 
 
-LIBRARY = loaded(os.environ.get("FUZSBANEL_LIB", BUILT))
+LIBRARY = loaded(os.environ.get("FUZSBANEL_LIB", INSTALLED if os.path.exists(INSTALLED) else BUILT))
 
 NO_ROOM = -100
 LONGEST_NAME = 1004
