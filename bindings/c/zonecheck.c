@@ -83,10 +83,12 @@ static int64_t checked(const char *origin, const uint8_t *text, size_t len, cons
     }
 }
 
-/* Adds the file that the words of refusal 20 ask for. */
-static bool add_asked(struct texts *texts, const char *words)
+/* Adds the file that the words of refusal 20 ask for. No file has a zero byte in its name. */
+static bool add_asked(struct texts *texts, const char *words, size_t words_len)
 {
-    size_t before = strlen(BEFORE_NAME), len = strlen(words) - before - strlen(AFTER_NAME);
+    if (memchr(words, 0, words_len))
+        return false;
+    size_t before = strlen(BEFORE_NAME), len = words_len - before - strlen(AFTER_NAME);
     char *name = grown(NULL, len + 1);
     memcpy(name, words + before, len);
     name[len] = 0;
@@ -111,7 +113,7 @@ static int check(const char *origin, const char *path)
         int64_t answer;
         do
             answer = checked(origin, text, len, &texts, &name, &words, &fault);
-        while (answer == -FUZSBANEL_NO_INCLUDE && add_asked(&texts, words));
+        while (answer == -FUZSBANEL_NO_INCLUDE && add_asked(&texts, words, fault.words_len));
         if (answer == 0)
             status = 0;
         else if (fault.line == 0)

@@ -1,6 +1,6 @@
 //! Where zone text is refused, and for what (RFC 1035, 5.1).
 
-ghost use Rattle.std.specs.Prelude.{◌≡◌, ◌⊎◌, Err, IfErr, IfOk, Some, [], map, option_map};
+ghost use Rattle.std.specs.Prelude.{◌≡◌, ◌⊎◌, Err, IfErr, IfOk, Result, Some, [], map, option_map};
 ghost use Rattle.std.specs.String.{string_bytes};
 ghost use Rattle.base.specs.names.Labels.{NameValue};
 ghost use Rattle.txt.specs.Faults.{FailsAt, inclusion_value};
@@ -184,7 +184,7 @@ fn tell(alloc: Global, fault: ZoneFault) -> Result<Told, Refusal>
 
 /// The name of the text that was opened last; empty where none was.
 fn last_name(alloc: Global, mut inclusions: Vec<Inclusion>) -> String
-    ensures { string_bytes result ≡ last_name [] (map inclusion_value inclusions.entry.items) }
+    ensures { string_bytes result ≡ last_name [] (map inclusion_value inclusions.items) }
 {
     match inclusions.pop() {
         Some(inclusion) => inclusion.name,
