@@ -1,5 +1,5 @@
 -- What the check of zone text tells.
-use Rattle.std.proofs.Common.{◌≡◌, ◌⊎◌, ◌∙◌, ◌++◌, ℕ, List, [], ◌∷◌, ap, drop, length, refl, subst, sym, take, inl, inr}
+use Rattle.std.proofs.Common.{◌≡◌, ◌⊎◌, ◌∙◌, ◌++◌, ◌+◌, ℕ, List, [], ◌∷◌, ap, drop, length, refl, sym, take, inl, inr}
 use Rattle.std.proofs.Common.{Option, Some, None, Result, Ok, Err, Bool, true, false, cond, length-take}
 use Rattle.std.proofs.Math.Nat.{min_comm}
 use Rattle.std.proofs.lemmas.List.{drop_min, map-append, take_min}
@@ -17,12 +17,15 @@ use Rattle.base.specs.declared.error.parse_error.ParseError.TheVariants as refus
 use Rattle.txt.proofs.TextsLemmas.{texts_are}
 use Rattle.txt.specs.Faults.{FailsAtPlace, inclusion_value}
 use Rattle.txt.specs.Parser.{ParserValue, named_texts, text_among, texts_in}
-use Rattle.txt.specs.Zone.{PlacedFault, Texts, placed_zone_by}
+use Rattle.txt.specs.Zone.{PlacedFault, Texts, no_texts, placed_zone_by}
 use Rattle.txt.specs.declared.zone.fault.FaultPlace.{FaultPlace}
 use Rattle.txt.specs.declared.zone.fault.Inclusion.{Inclusion}
-use Rattle.capi.specs.Answer.{Asked}
-use Rattle.capi.specs.ZoneCheck.{IsChecked, IsNotTold, IsToldAt, ToldFault, fault_told, fronted, last_name}
+use Rattle.capi.specs.Answer.{Asked, ◌>>=◌}
+use Rattle.capi.specs.ZoneCheck.{IsChecked, IsNotTold, IsToldAt, ToldFault, fault_told, fronted, last_name, with_texts}
+use Rattle.capi.specs.ZoneCheck.{zone_checked}
+use Rattle.capi.specs.ZoneText.{characters, origin_of_text}
 use Rattle.capi.specs.declared.zone_check.FaultFound.{FaultFound}
+use Rattle.capi.specs.declared.zone_check.Included.{Included}
 
 -- as many bytes as have room stand at the front
 pub front_is : (bytes old : List ℕ)
@@ -76,6 +79,63 @@ text_more old new name text puts = λ i asked. at asked i where
     go true = refl
     go false = refl
 
+-- the text that stands first
+text_read : (texts : Texts) (first : Included) (more : List Included) (bytes name text : List ℕ)
+    → characters (take first.name_len bytes) ≡ Ok name
+    → characters (take first.text_len (drop first.name_len bytes)) ≡ Ok text
+    → with_texts texts (first ∷ more) bytes ≡ with_texts (update bytes_eq texts name (Some text)) more
+    (drop first.text_len (drop first.name_len bytes))
+text_read texts first more bytes name text name_is text_is =
+    let next : List ℕ → List ℕ → Asked Texts = λ named read. with_texts (update bytes_eq texts named (Some read)) more
+    (drop first.text_len (drop first.name_len bytes)) in
+    ap (λ (asked : Asked (List ℕ)). asked >>= λ named.
+    characters (take first.text_len (drop first.name_len bytes)) >>= λ read. next named read) name_is
+    ∙ ap (λ (asked : Asked (List ℕ)). asked >>= λ read. next name read) text_is
+
+-- a refusal of the name or the text that stands first refuses all
+pub name_refused : (texts : Texts) (included : List Included) (i : ℕ) (first : Included) (bytes : List ℕ)
+    (all : Asked Texts) (number : ℕ)
+    → with_texts texts (drop i included) bytes ≡ all → drop i included ≡ first ∷ drop (i + 1) included
+    → (number ≡ 3) ⊎ (characters (take first.name_len bytes) ≡ Err number) → (number ≡ 3) ⊎ (all ≡ Err number)
+name_refused texts included i first bytes all number invariant more (inl memory) = inl memory
+name_refused texts included i first bytes all number invariant more (inr is) = inr (sym invariant
+    ∙ ap (λ (left : List Included). with_texts texts left bytes) more
+    ∙ ap (λ (asked : Asked (List ℕ)). asked >>= λ name.
+    characters (take first.text_len (drop first.name_len bytes)) >>= λ text.
+    with_texts (update bytes_eq texts name (Some text)) (drop (i + 1) included)
+    (drop first.text_len (drop first.name_len bytes))) is)
+
+pub text_refused : (texts : Texts) (included : List Included) (i : ℕ) (first : Included) (bytes name : List ℕ)
+    (all : Asked Texts) (number : ℕ)
+    → with_texts texts (drop i included) bytes ≡ all → drop i included ≡ first ∷ drop (i + 1) included
+    → characters (take first.name_len bytes) ≡ Ok name
+    → (number ≡ 3) ⊎ (characters (take first.text_len (drop first.name_len bytes)) ≡ Err number)
+    → (number ≡ 3) ⊎ (all ≡ Err number)
+text_refused texts included i first bytes name all number invariant more name_is (inl memory) = inl memory
+text_refused texts included i first bytes name all number invariant more name_is (inr is) = inr (sym invariant
+    ∙ ap (λ (left : List Included). with_texts texts left bytes) more
+    ∙ ap (λ (asked : Asked (List ℕ)). asked >>= λ named.
+    characters (take first.text_len (drop first.name_len bytes)) >>= λ text.
+    with_texts (update bytes_eq texts named (Some text)) (drop (i + 1) included)
+    (drop first.text_len (drop first.name_len bytes))) name_is
+    ∙ ap (λ (asked : Asked (List ℕ)). asked >>= λ text.
+    with_texts (update bytes_eq texts name (Some text)) (drop (i + 1) included)
+    (drop first.text_len (drop first.name_len bytes))) is)
+
+-- what is read of the text that stands first, and what is left to read
+pub texts_on : (old new : Texts) (included : List Included) (i : ℕ) (first : Included)
+    (bytes name text after : List ℕ) (all : Asked Texts)
+    → with_texts old (drop i included) bytes ≡ all → drop i included ≡ first ∷ drop (i + 1) included
+    → characters (take first.name_len bytes) ≡ Ok name
+    → characters (take first.text_len (drop first.name_len bytes)) ≡ Ok text
+    → new ≡ update bytes_eq old name (Some text) → after ≡ drop first.text_len (drop first.name_len bytes)
+    → with_texts new (drop (i + 1) included) after ≡ all
+texts_on old new included i first bytes name text after all invariant more name_is text_is new_is after_is =
+    ap (λ (texts : Texts). with_texts texts (drop (i + 1) included) after) new_is
+    ∙ ap (λ (left : List ℕ). with_texts (update bytes_eq old name (Some text)) (drop (i + 1) included) left) after_is
+    ∙ sym (text_read old first (drop (i + 1) included) bytes name text name_is text_is)
+    ∙ ap (λ (left : List Included). with_texts old left bytes) (sym more) ∙ invariant
+
 -- the zone of a parser is that of what it was handed
 pub zone_parsed : (generic : Bool) (origin : Option NameValue) (text : List ℕ)
     (includes : BTreeMap (String Global) (String Global)) (p : ParserValue)
@@ -85,6 +145,20 @@ pub zone_parsed : (generic : Bool) (origin : Option NameValue) (text : List ℕ)
 zone_parsed generic origin text includes p is =
     ap (λ (texts : Texts). placed_zone_by generic texts origin text) (texts_are includes)
     ∙ ap (λ (q : ParserValue). placed_zone_by generic (text_among q.includes) q.origin q.text) (sym is)
+
+-- the fault of a text, by what was made of the words of a call
+pub checked_is : (origin text : List ℕ) (included : List Included) (bytes : List ℕ) (under : Option NameValue)
+    (chars : List ℕ) (texts : Texts) (told : Option ToldFault)
+    → origin_of_text origin ≡ Ok under → characters text ≡ Ok chars → with_texts no_texts included bytes ≡ Ok texts
+    → fault_told (placed_zone_by true texts under chars) ≡ told
+    → zone_checked origin text included bytes ≡ Ok told
+checked_is origin text included bytes under chars texts told origin_is text_is texts_are is =
+    ap (λ (asked : Asked (Option NameValue)). asked >>= λ o. characters text >>= λ cs.
+    with_texts no_texts included bytes >>= λ ts. Ok (fault_told (placed_zone_by true ts o cs))) origin_is
+    ∙ ap (λ (asked : Asked (List ℕ)). asked >>= λ cs.
+    with_texts no_texts included bytes >>= λ ts. Ok (fault_told (placed_zone_by true ts under cs))) text_is
+    ∙ ap (λ (asked : Asked Texts). asked >>= λ ts. Ok (fault_told (placed_zone_by true ts under chars))) texts_are
+    ∙ ap Ok is
 
 module _ {asked : Asked (Option ToldFault)} {old_name new_name old_words new_words : List ℕ} {found : FaultFound}
     {result : ℤ} where

@@ -1,6 +1,6 @@
 //! Where zone text is refused, and for what (RFC 1035, 5.1).
 
-ghost use Rattle.std.specs.Prelude.{◌≡◌, ◌⊎◌, Err, IfErr, IfOk, Result, Some, [], map, option_map};
+ghost use Rattle.std.specs.Prelude.{◌≡◌, ◌⊎◌, Err, IfErr, IfOk, Result, Some, [], drop, map, option_map, take};
 ghost use Rattle.std.specs.String.{string_bytes};
 ghost use Rattle.base.specs.names.Labels.{NameValue};
 ghost use Rattle.txt.specs.Faults.{FailsAt, inclusion_value};
@@ -140,8 +140,8 @@ fn included_texts(
     let mut texts = BTreeMap::new(alloc);
     let mut rest = bytes;
     for lengths in included {
-        let (name, after_name) = rest.split_at(lengths.name_len.min(rest.len()));
-        let (text, after_text) = after_name.split_at(lengths.text_len.min(after_name.len()));
+        let (name, after_name) = front_and_rest(rest, lengths.name_len);
+        let (text, after_text) = front_and_rest(after_name, lengths.text_len);
         let name = characters_of(name)?;
         let text = characters_of(text)?;
         texts.insert(
@@ -151,6 +151,14 @@ fn included_texts(
         rest = after_text;
     }
     Ok(texts)
+}
+
+/// So many bytes at the front, or all where there are fewer, and those after them.
+fn front_and_rest(bytes: &[u8], len: usize) -> (&[u8], &[u8])
+    ensures front { result.0.now ≡ take len bytes.now }
+    ensures rest { result.1.now ≡ drop len bytes.now }
+{
+    bytes.split_at(len.min(bytes.len()))
 }
 
 /// A fault of zone text, as callers are told it.
