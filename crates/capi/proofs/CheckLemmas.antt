@@ -1,6 +1,6 @@
 -- What the check of zone text tells.
-use Rattle.std.proofs.Common.{◌≡◌, ◌⊎◌, ◌∙◌, ◌++◌, ◌+◌, ◌<◌, ℕ, List, [], ◌∷◌, ap, drop, get_or, length, refl, sym, take}
-use Rattle.std.proofs.Common.{Option, Some, Ok, Err, Bool, true, false, cond, inl, inr}
+use Rattle.std.proofs.Common.{◌≡◌, ◌⊎◌, ◌∙◌, ◌++◌, ◌+◌, ◌<◌, ℕ, List, [], ◌∷◌, ap, drop, get_or, length, refl, sym}
+use Rattle.std.proofs.Common.{take, Option, Some, Ok, Err, Bool, true, false, cond, inl, inr}
 use Rattle.std.proofs.lemmas.List.{drop_more, map-append}
 use Rattle.std.specs.BTreeMap.{BTreeMap, get_by_text}
 use Rattle.std.specs.Map.{update}

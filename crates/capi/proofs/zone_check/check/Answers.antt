@@ -19,8 +19,8 @@ returns c =
     let parsed : Result (NameValue × ZoneSets) PlacedFault =
     placed_zone_by true (text_among c.new.result.includes) c.new.result.origin c.new.result.text in
     checked_is c.args.origin.now c.args.text.now c.args.included.now c.args.included_bytes.now _ _ _
-    (Some (told_value c.in_ok-tell.field-0))
+    (Some (told_value c.in_ok-tell-in-Err.field-0))
     c.in_ok-origin.ensures c.in_ok-text.ensures c.in_ok-texts.ensures
     (ap (λ (made : Result (NameValue × ZoneSets) PlacedFault). fault_told made)
     (zone_parsed true c.in_ok-origin.origin c.in_ok-text.text.now c.in_ok-texts.texts c.new.result c.new.ensures)
-    ∙ c.in_ok-tell.ensures.told parsed c.in-Err.ensures.zone)
+    ∙ c.in_ok-tell-in-Err.ensures.told parsed c.in-Err.ensures.zone)

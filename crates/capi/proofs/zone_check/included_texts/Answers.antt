@@ -1,4 +1,4 @@
-use Rattle.std.proofs.Common.{ap, rules, sym, ◌∙◌, ◌≡◌, List, Some, drop, take, ℕ}
+use Rattle.std.proofs.Common.{ap, sym, ◌∙◌, List, Some, drop, take, ℕ}
 use Rattle.std.proofs.lemmas.Map.Text.{btree_map_updates_text}
 use Rattle.std.proofs.lemmas.Result.{err_from_is_err_and}
 use Rattle.std.specs.Map.{update}
