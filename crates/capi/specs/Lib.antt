@@ -1,6 +1,7 @@
 pub mod Answer
 pub mod Applied
 pub mod Header
+pub mod Held
 pub mod Message
 pub mod Query
 pub mod Refusals
@@ -8,6 +9,6 @@ pub mod Response
 pub mod Update
 pub mod Walk
 pub mod WalkWhole
-pub mod ZoneText
-pub mod Held
+pub mod ZoneCheck
 pub mod ZoneHandle
+pub mod ZoneText
