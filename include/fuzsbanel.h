@@ -49,6 +49,7 @@ enum fuzsbanel_refusal {
     FUZSBANEL_AFTER_SIGNATURE = 11,   /* a record after the signature */
     FUZSBANEL_MISPLACED = 12,         /* OPT, SIG or TSIG outside the additional section */
     FUZSBANEL_SECOND_OPT = 13,        /* a second OPT record */
+    FUZSBANEL_NOT_A_RESPONSE = 16,    /* a query, where a response is asked for */
     FUZSBANEL_UNEXPECTED_TOKEN = 17,  /* zone text: a token that has no place there */
     FUZSBANEL_LEXER = 18,             /* zone text: a character or bracket that no token has */
     FUZSBANEL_ENTRY = 19,             /* zone text: an entry that can't be carried out */
@@ -108,6 +109,24 @@ struct fuzsbanel_header {
 /* Fills in the header that `message` begins with, and answers 12. Refuses with 4, and `*header` stays. What comes after
  * the header isn't looked at. */
 int64_t fuzsbanel_header(const uint8_t *message, size_t len, struct fuzsbanel_header *header);
+
+/* What a response says (RFC 2308, 5; RFC 6891, 6.2.3). */
+struct fuzsbanel_response {
+    uint32_t negative_ttl; /* for how many seconds the absence of an answer may be kept; 0 without an SOA that says so */
+    uint16_t max_payload;  /* how many bytes its sender takes, 512 at least */
+    bool has_negative_ttl;
+};
+
+/* Fills in what the response says that `message` begins with, and answers 1 where it answers some question, else 0: for
+ * type ANY any record of its name does, for SOA an SOA in whose zone the name lies, for another type any answer, or a
+ * record of that name and type in any section. Refuses as fuzsbanel_check does, and a query with 16; `*response` stays. */
+int64_t fuzsbanel_response(const uint8_t *message, size_t len, struct fuzsbanel_response *response);
+
+/* Writes a query with one question (RFC 1035, 4.1.1 and 4.1.2). The name is taken as absolute, with a dot at its end or
+ * without. `recursion` is RD. With a `payload` other than 0 the query has EDNS, which says that answers of so many bytes
+ * are taken, and of 512 at least (RFC 6891, 6.2.3). Refuses with 26 for a name of no bytes, 24, and 23 for no name. */
+int64_t fuzsbanel_build_query(uint16_t id, const uint8_t *name, size_t name_len, uint16_t record_type, uint16_t class_,
+                              bool recursion, uint16_t payload, uint8_t *out, size_t cap, size_t *needed);
 
 /* ---- a message walked where it stands: no data is copied, and places count from the first byte of `message`
  *

@@ -42,9 +42,10 @@ from types import MappingProxyType
 from typing import Iterator, Mapping, NamedTuple, Optional, Tuple, Union
 
 __all__ = [
-    "EdnsOption", "Fault", "Header", "Query", "Record", "Refusal", "Zone", "append", "apply", "check", "compare_and_swap",
-    "create", "cut", "data_text", "delete_all", "delete_by_rdata", "delete_rrset", "header", "name", "options", "queries",
-    "query", "record", "records", "text", "walk", "zone", "zone_check", "zone_transfer",
+    "EdnsOption", "Fault", "Header", "Query", "Record", "Refusal", "Response", "Zone", "append", "apply",
+    "build_query", "check", "compare_and_swap", "create", "cut", "data_text", "delete_all", "delete_by_rdata",
+    "delete_rrset", "header", "name", "options", "queries", "query", "record", "records", "response", "text", "walk",
+    "zone", "zone_check", "zone_transfer",
 ]
 
 HERE = os.path.dirname(os.path.realpath(__file__))
@@ -83,6 +84,7 @@ NAMES = {
     11: "a record after the signature",
     12: "OPT, SIG or TSIG outside the additional section",
     13: "a second OPT record",
+    16: "a query, where a response is asked for",
     17: "a token that the entry has no place for",
     18: "a character or a bracket that no token has a place for",
     19: "an entry that can't be carried out",
@@ -139,6 +141,10 @@ class HeaderFields(ctypes.Structure):
         ("authentic_data", ctypes.c_bool),
         ("checking_disabled", ctypes.c_bool),
     ]
+
+
+class ResponseFields(ctypes.Structure):
+    _fields_ = [("negative_ttl", ctypes.c_uint32), ("max_payload", ctypes.c_uint16), ("has_negative_ttl", ctypes.c_bool)]
 
 
 class QueryFields(ctypes.Structure):
@@ -202,6 +208,15 @@ class Header(NamedTuple):
     recursion_available: bool
     authentic_data: bool
     checking_disabled: bool
+
+
+class Response(NamedTuple):
+    """What a response says: whether it answers some question, for how many seconds the absence of an answer may be kept,
+    None without an SOA that says so, and how many bytes its sender takes (RFC 2308, 5; RFC 6891, 6.2.3)."""
+
+    answers: bool
+    negative_ttl: Optional[int]
+    max_payload: int
 
 
 class Query(NamedTuple):
@@ -278,6 +293,8 @@ CALLS = {
     "cut": BYTES + U16 + OUT,
     "text": BYTES + OUT,
     "header": BYTES + [ctypes.POINTER(HeaderFields)],
+    "response": BYTES + [ctypes.POINTER(ResponseFields)],
+    "build_query": U16 + BYTES + U16 + U16 + [ctypes.c_bool] + U16 + OUT,
     "query": BYTES + PLACE + [ctypes.POINTER(QueryFields)],
     "record": BYTES + PLACE + [ctypes.POINTER(RecordFields)],
     "option": BYTES + PLACE + [ctypes.POINTER(OptionFields)],
@@ -360,6 +377,36 @@ def header(message: bytes) -> Header:
     fields = HeaderFields()
     asked("header", message, ctypes.byref(fields))
     return Header(*(getattr(fields, field) for field in Header._fields))
+
+
+def response(message: bytes) -> Response:
+    """What the response says that the bytes begin with.
+
+    >>> denied = bytes.fromhex("000981030001000000010000" "03777777076578616d706c6500" "00010001"
+    ...     "c01000060001" "0000003c" "0018" "c00cc00c" "00000001" "00000002" "00000003" "00000004" "00000005")
+    >>> response(denied)
+    Response(answers=False, negative_ttl=5, max_payload=512)
+    >>> response(build_query(9, "www.example", 1))
+    Traceback (most recent call last):
+    ...
+    fuzsbanel.Refusal: 16: a query, where a response is asked for
+    """
+    fields = ResponseFields()
+    answers = asked("response", message, ctypes.byref(fields)) != 0
+    return Response(answers, fields.negative_ttl if fields.has_negative_ttl else None, fields.max_payload)
+
+
+def build_query(id_: int, name_text: str, record_type: int, class_: int = 1, recursion: bool = True,
+                payload: int = 0) -> bytes:
+    """A query with one question. The name is taken as absolute. With a payload the query has EDNS, which says that answers
+    of so many bytes are taken, and of 512 at least (RFC 6891, 6.2.3).
+
+    >>> build_query(9, "www.example", 1).hex()
+    '00090100000100000000000003777777076578616d706c650000010001'
+    >>> build_query(9, "www.example.", 1, payload=1232)[29:].hex()
+    '00002904d0000000000000'
+    """
+    return filled(512, "build_query", id_, name_text, record_type, class_, recursion, payload)
 
 
 def name(message: bytes, place: int) -> str:

@@ -1,5 +1,6 @@
 //! The declarations of `include/fuzsbanel.h`, and what each call's answer means.
 
+use crate::ask::ResponseFound;
 use crate::error::Error;
 use crate::walk::{Header, ItemFound, OptionFound, QueryFound, RecordFound, Room};
 
@@ -49,6 +50,19 @@ extern "C" {
         needed: *mut usize,
     ) -> i64;
     pub fn fuzsbanel_header(message: *const u8, len: usize, header: *mut Header) -> i64;
+    pub fn fuzsbanel_response(message: *const u8, len: usize, response: *mut ResponseFound) -> i64;
+    pub fn fuzsbanel_build_query(
+        id: u16,
+        name: *const u8,
+        name_len: usize,
+        record_type: u16,
+        class: u16,
+        recursion: bool,
+        payload: u16,
+        out: *mut u8,
+        cap: usize,
+        needed: *mut usize,
+    ) -> i64;
     pub fn fuzsbanel_query(
         message: *const u8,
         len: usize,

@@ -56,6 +56,7 @@ errors! {
     11 AfterSignature "a record after the signature",
     12 Misplaced "OPT, SIG or TSIG outside the additional section",
     13 SecondOpt "a second OPT record",
+    16 Query "a query, where a response is asked for",
     17 UnexpectedToken "a token that the entry has no place for",
     18 Lexer "a character or a bracket that no token has a place for",
     19 Entry "an entry that can't be carried out",

@@ -13,12 +13,14 @@
 //! # Ok::<(), fuzsbanel::Error>(())
 //! ```
 
+mod ask;
 mod calls;
 mod error;
 mod held;
 mod update;
 mod walk;
 
+pub use ask::{build_query, response, Response};
 pub use error::Error;
 pub use held::Zone;
 pub use update::{

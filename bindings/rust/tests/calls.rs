@@ -375,6 +375,29 @@ fn no_update_is_cut() {
 }
 
 #[test]
+fn queries_are_built() {
+    let query = b"\0\x09\x01\0\0\x01\0\0\0\0\0\0\x03www\x07example\0\0\x01\0\x01";
+    let built = fuzsbanel::build_query(9, "www.example", 1, 1, true, None);
+    assert_eq!(built, Ok(query.to_vec()));
+    let built = fuzsbanel::build_query(9, "www.example.", 1, 1, true, Some(0)).unwrap();
+    // an OPT record of the root, 512 bytes
+    assert_eq!(built[29..], *b"\0\0\x29\x02\0\0\0\0\0\0\0");
+    let none = fuzsbanel::build_query(9, "a..b", 1, 1, true, None);
+    assert_eq!(none, Err(Error::BadText));
+}
+
+#[test]
+fn responses_say_whether_they_answer() {
+    // NXDomain for www.example., and the SOA with a TTL of 60 and a MINIMUM of 5
+    let denied = b"\0\x09\x81\x03\0\x01\0\0\0\x01\0\0\x03www\x07example\0\0\x01\0\x01\
+        \xc0\x10\0\x06\0\x01\0\0\0\x3c\0\x18\xc0\x0c\xc0\x0c\0\0\0\x01\0\0\0\x02\0\0\0\x03\0\0\0\x04\0\0\0\x05";
+    let said = fuzsbanel::response(denied).unwrap();
+    assert_eq!((said.answers, said.negative_ttl, said.max_payload), (false, Some(5), 512));
+    let query = fuzsbanel::build_query(9, "www.example", 1, 1, true, None).unwrap();
+    assert_eq!(fuzsbanel::response(&query), Err(Error::Query));
+}
+
+#[test]
 fn refusals_have_their_numbers() {
     assert_eq!(Error::Memory.number(), 3);
     assert_eq!(Error::Class.number(), 25);

@@ -15,11 +15,14 @@ response_of bytes = message_of bytes >>= λ m.
 
 -- what it says, and 1 where it answers some question (RFC 2308, 5; RFC 6891, 6.2.3)
 abbrev pub facts_of : MessageValue → ResponseFacts × ℕ
-facts_of m = (record {
-  negative_ttl = unwrap_or (negative_ttl m) 0;
-  max_payload = payload_taken m.edns;
-  has_negative_ttl = is_some (negative_ttl m);
-}, if contains_answer m then 1 else 0)
+facts_of m = (
+  record {
+    negative_ttl = unwrap_or (negative_ttl m) 0;
+    max_payload = payload_taken m.edns;
+    has_negative_ttl = is_some (negative_ttl m);
+  },
+  if contains_answer m then 1 else 0,
+)
 
 -- the same of the bytes of a response
 abbrev pub found_response : List ℕ → Asked (ResponseFacts × ℕ)

@@ -28,7 +28,11 @@ pub struct ResponseFacts {
 ///
 /// The number of the first fault, and 16 for a query. What was found before stays.
 #[unsafe(no_mangle)]
-pub extern "C" fn fuzsbanel_response(alloc: Global, message: &[u8], found: &mut ResponseFacts) -> i64
+pub extern "C" fn fuzsbanel_response(
+    alloc: Global,
+    message: &[u8],
+    found: &mut ResponseFacts,
+) -> i64
     ensures { IsFound (found_response message.now) found.old found.new result }
 {
     match facts(alloc, message) {

@@ -1,5 +1,6 @@
 //! Each export that reads messages, over the worked messages (bindings/worked/messages) and what RFC 1035 says of them.
 
+mod asked;
 mod generic;
 mod held;
 mod long_names;
