@@ -132,9 +132,12 @@ pub is_told : (told : Told) (asked : Asked (Option ToldFault)) (old_name new_nam
     → IsChecked asked old_name new_name old_words new_words
     (record { line = told.line; column = told.column; name_len = name_len; words_len = words_len }) result
 is_told told asked old_name new_name old_words new_words name_len words_len result is name words names lens answer =
-    rw is (record {
-      name = name;
-      words = string_bytes told.words;
-      words_are = words;
-      place = rw (names, lens) refl;
-    }, answer)
+    rw is (
+      record {
+        name = name;
+        words = string_bytes told.words;
+        words_are = words;
+        place = rw (names, lens) refl;
+      },
+      answer,
+    )
