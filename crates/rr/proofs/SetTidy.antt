@@ -67,7 +67,7 @@ distinct_of : (x : Record RData) (xs : List (Record RData)) → Far x xs → Dis
 unfolding IsDistinct
 distinct_of x xs far d = (far, d)
 
-distinct_none : Distinct []
+pub distinct_none : Distinct []
 unfolding IsDistinct
 distinct_none = tt
 
@@ -87,7 +87,7 @@ distinct_pushed r (x ∷ xs) h d =
     distinct_of x (xs ++ r ∷ []) (all_append (λ q. same_data x.rdata q.rdata ≡ false) xs (r ∷ []) parts.0 (none.0, tt))
     (distinct_pushed r xs none.1 parts.1)
 
-distinct_put : (r : Record RData) (xs : List (Record RData)) (b : Bool) → list_any (has_data_of r) xs ≡ b → Distinct xs
+pub distinct_put : (r : Record RData) (xs : List (Record RData)) (b : Bool) → list_any (has_data_of r) xs ≡ b → Distinct xs
     → Distinct (replaced r xs ++ (if b then [] else r ∷ []))
 distinct_put r xs true h d = subst Distinct (sym (append-nil (replaced r xs))) (distinct_replaced r xs d)
 distinct_put r xs false h d = subst (λ ys. Distinct (ys ++ r ∷ [])) (sym (replaced_none r xs h))
@@ -137,7 +137,7 @@ distinct_if : (b : Bool) (xs ys : List (Record RData)) → Distinct xs → Disti
 distinct_if true xs ys h k = h
 distinct_if false xs ys h k = k
 
-distinct_left : (test : Record RData → Bool) (xs : List (Record RData)) → Distinct xs → Distinct (filter test xs)
+pub distinct_left : (test : Record RData → Bool) (xs : List (Record RData)) → Distinct xs → Distinct (filter test xs)
 distinct_left test [] d = distinct_none
 distinct_left test (x ∷ xs) d =
     let parts : Far x xs × Distinct xs = parts_of x xs d in
