@@ -12,7 +12,7 @@ use Rattle.std.specs.List.{list_any, slice_get}
 use Rattle.std.specs.Map.{KeepsOthers, AreApart}
 use Rattle.std.specs.Ordering.{nat_cmp, is_eq}
 use Rattle.std.specs.declared.alloc.Global.{Global}
-use Rattle.std.proofs.lemmas.Bool.{cases_lt, cases_Bool, or_parts}
+use Rattle.std.proofs.lemmas.Bool.{cases_lt, cases_Bool, false_from_ne_true, or_parts, true≢false}
 use Rattle.std.proofs.lemmas.List.{get_or_append_left, get_or-append_right, get_or-set_same}
 use Rattle.std.proofs.lemmas.List.{get_or-set_other, length-map, length-set}
 use Rattle.std.proofs.lemmas.Map.Text.{is_eq-slice_cmp}
@@ -92,66 +92,11 @@ cases_eq i p = elim (cases_lt i p) [
 sub_self : (n : ℕ) → n - n ≡ 0
 sub_self n = omega arith
 
--- where a record of equal data stands, the index has its place
-pub equal_at : (find : List ℕ → Option ℕ) (rs : List (Record RData)) (rdata : RData) → IsIndexOf find rs
-    → (i : ℕ) (d : Record RData) → i < length rs
-    → same_data (get_or rs i d).rdata rdata ≡ true → find (canonical_data rdata) ≡ Some i
-equal_at find rs rdata h i d inside same = ap find (sym (one_key (get_or rs i d).rdata rdata same)) ∙ h.at i d inside
-
--- where the index has another place or none, the data is other
-pub other_at : (find : List ℕ → Option ℕ) (rs : List (Record RData)) (rdata : RData) → IsIndexOf find rs
-    → (i : ℕ) (d : Record RData) → i < length rs
-    → (find (canonical_data rdata) ≢ Some i) → same_data (get_or rs i d).rdata rdata ≡ false
-other_at find rs rdata h i d inside apart = elim (cases_Bool (same_data (get_or rs i d).rdata rdata)) [
-  | inl same ↦ absurd (apart (equal_at find rs rdata h i d inside same))
-  | inr differ ↦ differ
-]
-
 none_any : (rdata : RData) (rs : List (Record RData))
     → ((i : ℕ) (d : Record RData) → i < length rs → same_data (get_or rs i d).rdata rdata ≡ false)
     → list_any (λ (x : Record RData). same_data x.rdata rdata) rs ≡ false
 none_any rdata [] h = refl
 none_any rdata (x ∷ xs) h = λ i. h 0 x (omega arith) i || none_any rdata xs (λ j d inside. h (suc j) d (omega arith)) i
-
--- the index has no place for the data
-pub absent_none : (find : List ℕ → Option ℕ) (rs : List (Record RData)) (rdata : RData) → IsIndexOf find rs
-    → find (canonical_data rdata) ≡ None
-    → list_any (λ (x : Record RData). same_data x.rdata rdata) rs ≡ false
-absent_none find rs rdata h none = none_any rdata rs
-    (λ i d inside. other_at find rs rdata h i d inside (λ is. none_is_not i (sym none ∙ is)))
-
--- the place that it has is that of no record
-pub absent_past : (find : List ℕ → Option ℕ) (rs : List (Record RData)) (rdata : RData) (p : ℕ) → IsIndexOf find rs
-    → find (canonical_data rdata) ≡ Some p → (p < length rs → ⊥)
-    → list_any (λ (x : Record RData). same_data x.rdata rdata) rs ≡ false
-absent_past find rs rdata p h at past = none_any rdata rs
-    (λ i d inside. other_at find rs rdata h i d inside
-    (λ is. past (omega (arith, same_Some i p (sym is ∙ at), inside))))
-
--- the place that it has is that of other data
-pub absent_other : (find : List ℕ → Option ℕ) (rs : List (Record RData)) (rdata : RData) (p : ℕ) (e : Record RData)
-    → IsIndexOf find rs → find (canonical_data rdata) ≡ Some p
-    → e ≡ get_or rs p e → same_data e.rdata rdata ≡ false
-    → list_any (λ (x : Record RData). same_data x.rdata rdata) rs ≡ false
-absent_other find rs rdata p e h at is other = none_any rdata rs all where
-  all : (i : ℕ) (d : Record RData) → i < length rs → same_data (get_or rs i d).rdata rdata ≡ false
-  all i d inside = elim (cases_Bool (same_data (get_or rs i d).rdata rdata)) [
-    | inl same ↦
-        let place : i ≡ p = same_Some i p (sym (equal_at find rs rdata h i d inside same) ∙ at) in
-        let one : get_or rs i d ≡ get_or rs p e = get_or_any rs i p d e place inside in
-        ap (λ (x : Record RData). same_data x.rdata rdata) (one ∙ sym is) ∙ other
-    | inr differ ↦ differ
-  ]
-
--- the place that it has is that of equal data
-pub only_at : (find : List ℕ → Option ℕ) (rs : List (Record RData)) (rdata : RData) (p : ℕ) (e : Record RData)
-    → IsIndexOf find rs → find (canonical_data rdata) ≡ Some p
-    → p < length rs → e ≡ get_or rs p e → same_data e.rdata rdata ≡ true → IsOnlyAt rdata rs p
-only_at find rs rdata p e h at inside is same = record {
-  inside = inside;
-  same = λ d. ap (λ (x : Record RData). same_data x.rdata rdata) (get_or_any rs p p d e refl inside ∙ sym is) ∙ same;
-  others = λ i d within other. other_at find rs rdata h i d within (λ here. other (same_Some i p (sym here ∙ at)));
-}
 
 -- where no record has the data none is equal
 pub no_entry : (r : Record RData) (rs : List (Record RData)) → list_any (has_data_of r) rs ≡ false → has_entry r rs ≡ false
@@ -287,22 +232,38 @@ pushed m n xs zs r ks p h key free here others len is =
 -- what a look-up finds
 module _ (m : BTreeMap (Vec ℕ Global) ℕ) (rs : List (Record RData)) (ks : List ℕ) (rdata : RData)
     (h : IsIndexOf (place_at m) rs) (key : ks ≡ canonical_data rdata) where
-  pub none_at : None ≡ place_at m ks → list_any (λ (x : Record RData). same_data x.rdata rdata) rs ≡ false
-  none_at none = absent_none (place_at m) rs rdata h (ap (place_at m) (sym key) ∙ sym none)
+  -- where a record of equal data stands, the index has its place
+  equal_at : (i : ℕ) (d : Record RData) → i < length rs → same_data (get_or rs i d).rdata rdata ≡ true
+      → place_at m ks ≡ Some i
+  equal_at i d inside same = ap (place_at m) (key ∙ sym (one_key (get_or rs i d).rdata rdata same)) ∙ h.at i d inside
 
+  other_at : (i : ℕ) (d : Record RData) → i < length rs → (place_at m ks ≢ Some i)
+      → same_data (get_or rs i d).rdata rdata ≡ false
+  other_at i d inside apart = false_from_ne_true _ (λ same. apart (equal_at i d inside same))
+
+  pub none_at : None ≡ place_at m ks → list_any (λ (x : Record RData). same_data x.rdata rdata) rs ≡ false
+  none_at none = none_any rdata rs (λ i d inside. other_at i d inside (λ is. none_is_not i (none ∙ is)))
+
+  -- the place is that of no record, of other data, or of equal data
   pub past_at : (p : ℕ) → Some p ≡ place_at m ks → length rs ≤ p
       → list_any (λ (x : Record RData). same_data x.rdata rdata) rs ≡ false
-  past_at p at past = absent_past (place_at m) rs rdata p h (ap (place_at m) (sym key) ∙ sym at)
-      (λ below. omega (arith, past, below))
+  past_at p at past = none_any rdata rs (λ i d inside. other_at i d inside
+      (λ is. absurd (omega (arith, past, same_Some p i (at ∙ is), inside))))
 
   pub other_there : (p : ℕ) (e : Record RData) → Some p ≡ place_at m ks → e ≡ get_or rs p e
       → same_data e.rdata rdata ≡ false → list_any (λ (x : Record RData). same_data x.rdata rdata) rs ≡ false
-  other_there p e at is other = absent_other (place_at m) rs rdata p e h (ap (place_at m) (sym key) ∙ sym at) is other
+  other_there p e at is other = none_any rdata rs (λ i d inside. false_from_ne_true _ (λ same.
+      let place : i ≡ p = sym (same_Some p i (at ∙ equal_at i d inside same)) in
+      true≢false (sym same ∙ ap (λ (x : Record RData). same_data x.rdata rdata)
+      (get_or_any rs i p d e place inside ∙ sym is) ∙ other)))
 
   pub found_at : (p : ℕ) (e : Record RData) → Some p ≡ place_at m ks → p < length rs → e ≡ get_or rs p e
       → same_data e.rdata rdata ≡ true → IsOnlyAt rdata rs p
-  found_at p e at inside is same = only_at (place_at m) rs rdata p e h
-      (ap (place_at m) (sym key) ∙ sym at) inside is same
+  found_at p e at inside is same = record {
+    inside = inside;
+    same = λ d. ap (λ (x : Record RData). same_data x.rdata rdata) (get_or_any rs p p d e refl inside ∙ sym is) ∙ same;
+    others = λ i d within other. other_at i d within (λ here. other (sym (same_Some p i (at ∙ here))));
+  }
 
 -- records among which one alone has the data of r, and those with r among them
 entries : (r : Record RData) (rs : List (Record RData)) (b : Bool) → has_entry r rs ≡ b
@@ -337,7 +298,7 @@ first_after r rs none = slice_get_end rs r ∙ sym (first_around r r rs [] none 
 -- the index has the place of the one that has the data
 pub place_is : (find : List ℕ → Option ℕ) (rs : List (Record RData)) (rdata : RData) (p : ℕ) (d : Record RData)
     → IsIndexOf find rs → IsOnlyAt rdata rs p → find (canonical_data rdata) ≡ Some p
-place_is find rs rdata p d h only = equal_at find rs rdata h p d only.inside (only.same d)
+place_is find rs rdata p d h only = ap find (sym (one_key (get_or rs p d).rdata rdata (only.same d))) ∙ h.at p d only.inside
 
 pub none_of : (o : Option ℕ) → is_some o ≡ false → o ≡ None
 none_of None h = refl

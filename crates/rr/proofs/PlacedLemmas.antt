@@ -13,7 +13,7 @@ use Rattle.rr.specs.SetUpdates.{has_data_of_one, without}
 use Rattle.rr.specs.declared.record.Record.{Record}
 use Rattle.std.proofs.Common.{ap, append_assoc, arith, drop, get_or, inl, inr, length-append, refl, subst, sym, take, ◌∙◌}
 use Rattle.std.proofs.Common.{◌⊎◌}
-use Rattle.std.proofs.lemmas.Bool.{false_from_ne_true}
+use Rattle.std.proofs.lemmas.Bool.{false_from_ne_true, true≢false}
 use Rattle.std.proofs.lemmas.List.{take-append-drop, take_more}
 use Rattle.std.proofs.lemmas.List.Elements.{filter_map-append}
 use Rattle.std.proofs.lemmas.List.Folds.{list_any-append}
@@ -62,9 +62,6 @@ push_at (x ∷ xs) w y (suc i) h = elim (push_at xs w y i h) [
 
 pub none_some : {X : Type 0} (x : X) → None ≡ Some x → ⊥
 none_some x e = absurd cc
-
-false_true : false ≡ true → ⊥
-false_true e = absurd cc
 
 -- ---- the records that are there, after a change
 
@@ -167,8 +164,8 @@ module _ (find : List ℕ → Option ℕ) (ps : Places) (r : Record RData) (h : 
       → ((x : Record RData) → slice_get ps p ≡ Some (Some x) → same_data x.rdata r.rdata ≡ false)
       → list_any (has_data_of r) (present ps) ≡ false
   not_there p found other = none_present (has_data_of r) ps
-      (λ i x e. false_from_ne_true _ (λ same. false_true
-      (sym (other x (ap (slice_get ps) (same_Some p i (found ∙ equal_at i x e same)) ∙ e)) ∙ same)))
+      (λ i x e. false_from_ne_true _ (λ same. true≢false
+      (sym same ∙ other x (ap (slice_get ps) (same_Some p i (found ∙ equal_at i x e same)) ∙ e))))
 
   -- ---- the index after a change
 
