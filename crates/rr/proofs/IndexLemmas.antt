@@ -13,10 +13,10 @@ use Rattle.std.specs.Map.{KeepsOthers, AreApart}
 use Rattle.std.specs.Ordering.{nat_cmp, is_eq}
 use Rattle.std.specs.declared.alloc.Global.{Global}
 use Rattle.std.proofs.lemmas.Bool.{cases_lt, cases_Bool, false_from_ne_true, or_parts, true≢false}
-use Rattle.std.proofs.lemmas.List.{get_or_append_left, get_or-append_right, get_or-set_same}
+use Rattle.std.proofs.lemmas.List.{get_or_append_left, get_or-set_same}
 use Rattle.std.proofs.lemmas.List.{get_or-set_other, length-map, length-set}
 use Rattle.std.proofs.lemmas.Map.Text.{is_eq-slice_cmp}
-use Rattle.std.proofs.lemmas.Option.{same_Some, slice_get-get_or}
+use Rattle.std.proofs.lemmas.Option.{get_or_from_slice_get, same_Some, slice_get-get_or}
 use Rattle.std.proofs.lemmas.List.Folds.{list_any-append}
 use Rattle.std.proofs.Math.Bool.{or-false}
 use Rattle.base.specs.names.Labels.{wire_of}
@@ -89,9 +89,6 @@ cases_eq i p = elim (cases_lt i p) [
   ]
 ]
 
-sub_self : (n : ℕ) → n - n ≡ 0
-sub_self n = omega arith
-
 none_any : (rdata : RData) (rs : List (Record RData))
     → ((i : ℕ) (d : Record RData) → i < length rs → same_data (get_or rs i d).rdata rdata ≡ false)
     → list_any (λ (x : Record RData). same_data x.rdata rdata) rs ≡ false
@@ -151,6 +148,10 @@ module _ (r : Record RData) (rs : List (Record RData)) (p : ℕ) (h : IsOnlyAt r
       || no_entry r (drop (suc p) rs) none.1 i)) ∙ or-false (same_entry known r && nat_eq known.ttl r.ttl)
       ∙ ap (λ (y : Record RData). same_entry y r && nat_eq y.ttl r.ttl) (get_or_any rs p p r x refl h.inside ∙ sym is)
 
+slice_get_end : (rs : List (Record RData)) (r : Record RData) → slice_get (rs ++ r ∷ []) (length rs) ≡ Some r
+slice_get_end [] r = refl
+slice_get_end (x ∷ xs) r = slice_get_end xs r
+
 -- a key more in the index
 pub index_wider : (find after : List ℕ → Option ℕ) (rs : List (Record RData)) (key : List ℕ) → IsIndexOf find rs
     → find key ≡ None
@@ -170,8 +171,7 @@ index_push find after rs r h free others here = record { at = at } where
   wide = index_wider find after rs (canonical_data r.rdata) h free others
 
   at_end : (d : Record RData) → get_or (rs ++ r ∷ []) (length rs) d ≡ r
-  at_end d = get_or-append_right rs (r ∷ []) (length rs) (length rs) d refl (omega arith)
-      ∙ ap (λ (k : ℕ). get_or (r ∷ []) k d) (sub_self (length rs))
+  at_end d = get_or_from_slice_get (rs ++ r ∷ []) (length rs) r d (slice_get_end rs r)
 
   at : (i : ℕ) (d : Record RData) → i < length (rs ++ r ∷ [])
       → after (canonical_data (get_or (rs ++ r ∷ []) i d).rdata) ≡ Some i
@@ -285,10 +285,6 @@ entered_at r rs p x h is other = (λ i. (true, joined_at r rs p h i))
 pub entered_after : (r : Record RData) (rs : List (Record RData)) → list_any (has_data_of r) rs ≡ false
     → ◌≡◌ {A = Bool × List (Record RData)} (true, rs ++ r ∷ []) (entered r rs)
 entered_after r rs none = (λ i. (true, joined_after r rs none i)) ∙ sym (entries r rs false (no_entry r rs none))
-
-slice_get_end : (rs : List (Record RData)) (r : Record RData) → slice_get (rs ++ r ∷ []) (length rs) ≡ Some r
-slice_get_end [] r = refl
-slice_get_end (x ∷ xs) r = slice_get_end xs r
 
 -- the first record of its data, after records of other data
 pub first_after : (r : Record RData) (rs : List (Record RData)) → list_any (has_data_of r) rs ≡ false

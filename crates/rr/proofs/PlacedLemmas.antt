@@ -1,4 +1,5 @@
 -- What changes of records at places do to the records, and to the index of their places.
+use Rattle.base.proofs.writing.LawLemmas.{none_is_not}
 use Rattle.base_data.specs.Kinds.{canonical_data}
 use Rattle.base_data.specs.SameData.{same_data}
 use Rattle.base_data.specs.declared.rdata.RData.{RData}
@@ -32,21 +33,15 @@ Index = Option (BTreeMap (Vec ℕ Global) ℕ)
 
 -- ---- what stands at a place after a change
 
-after_zero : (i : ℕ) → suc i ≢ zero
-after_zero i e = absurd (omega (arith, e))
-
-less_one : (i p : ℕ) → i ≢ p → suc i ≢ suc p
-less_one i p h e = h (omega (arith, e))
-
 set_at : {X : Type 0} (xs : List X) (p i : ℕ) (x w y : X) → slice_get xs p ≡ Some x → slice_get (set xs p w) i ≡ Some y
     → ((i ≡ p) × (w ≡ y)) ⊎ ((i ≢ p) × (slice_get xs i ≡ Some y))
 set_at [] p i x w y h e = absurd cc
 set_at (z ∷ zs) zero zero x w y h e = inl (refl, same_Some w y e)
-set_at (z ∷ zs) zero (suc i) x w y h e = inr (after_zero i, e)
-set_at (z ∷ zs) (suc p) zero x w y h e = inr ((λ q. after_zero p (sym q)), e)
+set_at (z ∷ zs) zero (suc i) x w y h e = inr ((λ q. absurd (omega (arith, q))), e)
+set_at (z ∷ zs) (suc p) zero x w y h e = inr ((λ q. absurd (omega (arith, q))), e)
 set_at (z ∷ zs) (suc p) (suc i) x w y h e = elim (set_at zs p i x w y h e) [
   | inl here ↦ inl (ap suc here.0, here.1)
-  | inr other ↦ inr (less_one i p other.0, other.1)
+  | inr other ↦ inr ((λ q. other.0 (omega (arith, q))), other.1)
 ]
 
 -- a place of those before a new last one, or that one
@@ -59,9 +54,6 @@ push_at (x ∷ xs) w y (suc i) h = elim (push_at xs w y i h) [
   | inl before ↦ inl before
   | inr last ↦ inr (ap suc last.0, last.1)
 ]
-
-pub none_some : {X : Type 0} (x : X) → None ≡ Some x → ⊥
-none_some x e = absurd cc
 
 -- ---- the records that are there, after a change
 
@@ -157,7 +149,7 @@ module _ (find : List ℕ → Option ℕ) (ps : Places) (r : Record RData) (h : 
   -- it has no place
   pub not_found : None ≡ find (canonical_data r.rdata) → list_any (has_data_of r) (present ps) ≡ false
   not_found none = none_present (has_data_of r) ps
-      (λ i x e. false_from_ne_true _ (λ same. none_some i (none ∙ equal_at i x e same)))
+      (λ i x e. false_from_ne_true _ (λ same. none_is_not i (none ∙ equal_at i x e same)))
 
   -- the place is not that of such data
   pub not_there : (p : ℕ) → Some p ≡ find (canonical_data r.rdata)
@@ -184,7 +176,7 @@ module _ (find : List ℕ → Option ℕ) (ps : Places) (r : Record RData) (h : 
     pub index_taken : (p : ℕ) → IsIn r.rdata ps p → IsPlaceIndex after (set ps p None)
     index_taken p here = record {
       at = λ i x e. elim (set_at ps p i (Some here.known) None (Some x) here.here e) [
-        | inl a ↦ absurd (none_some x a.1)
+        | inl a ↦ absurd (none_is_not x a.1)
         | inr b ↦ others (canonical_data x.rdata) (λ same. b.0 (same_Some i p (sym (h.at i x b.1) ∙ ap find same
             ∙ equal_at p here.known here.here here.same))) ∙ h.at i x b.1
       ];
@@ -195,7 +187,7 @@ module _ (find : List ℕ → Option ℕ) (ps : Places) (r : Record RData) (h : 
         → IsPlaceIndex after (ps ++ Some r ∷ [])
     index_last free last = record {
       at = λ i x e. elim (push_at ps (Some r) (Some x) i e) [
-        | inl a ↦ others (canonical_data x.rdata) (λ same. none_some i (sym free ∙ ap find (sym same) ∙ h.at i x a))
+        | inl a ↦ others (canonical_data x.rdata) (λ same. none_is_not i (sym free ∙ ap find (sym same) ∙ h.at i x a))
             ∙ h.at i x a
         | inr a ↦ ap (λ (y : Record RData). after (canonical_data y.rdata)) (sym (same_Some r x a.1)) ∙ last
             ∙ ap Some (sym a.0)

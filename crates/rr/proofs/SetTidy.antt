@@ -4,6 +4,7 @@ use Rattle.std.proofs.Common.{subst, ◌∙◌, length, filter, arith, if◌then
 use Rattle.std.specs.List.{AllByRecursion, IsDistinct, list_any}
 use Rattle.std.proofs.lemmas.Bool.{or_parts}
 use Rattle.std.proofs.lemmas.List.{append-nil}
+use Rattle.std.proofs.lemmas.List.Filters.{length-filter_both}
 use Rattle.base.specs.names.Labels.{NameValue}
 use Rattle.base.specs.declared.record_type.RecordType.{RecordType}
 use Rattle.base.specs.declared.record_type.RecordType.TheVariants as types
@@ -145,14 +146,8 @@ distinct_left test (x ∷ xs) d =
     distinct_if (test x) (x ∷ filter test xs) (filter test xs)
     (distinct_of x (filter test xs) (all_left (λ q. same_data x.rdata q.rdata ≡ false) test xs parts.0) left) left
 
-fewer_if : (n : ℕ) (x : Record RData) (ys : List (Record RData)) (b : Bool) → length ys ≤ n
-    → length (cond b (x ∷ ys) ys) ≤ n + 1
-fewer_if n x ys true h = omega arith
-fewer_if n x ys false h = omega arith
-
 fewer_left : (test : Record RData → Bool) (xs : List (Record RData)) → length (filter test xs) ≤ length xs
-fewer_left test [] = omega arith
-fewer_left test (x ∷ xs) = omega (arith, fewer_if (length xs) x (filter test xs) (test x) (fewer_left test xs))
+fewer_left test xs = omega (arith, length-filter_both test (λ x. not (test x)) (λ x. refl) xs)
 
 pub remove_keeps_tidy : (set : SetValue) (r : Record RData) (serial : ℕ) → IsTidy set → IsTidy (remove set r serial).1
 remove_keeps_tidy set r serial tidy =

@@ -1,6 +1,7 @@
+use Rattle.base.proofs.writing.LawLemmas.{none_is_not}
 use Rattle.base_data.specs.SameData.{same_data}
 use Rattle.base_data.specs.declared.rdata.RData.{RData}
-use Rattle.rr.proofs.PlacedLemmas.{Places, none_some, not_found, not_there}
+use Rattle.rr.proofs.PlacedLemmas.{Places, not_found, not_there}
 use Rattle.rr.proofs.rr_set.placed_records.place_of.Goals as goal
 use Rattle.rr.specs.DataIndex.{place_at}
 use Rattle.rr.specs.declared.record.Record.{Record}
@@ -25,7 +26,7 @@ returns-in_default-get c =
     ∙ slice_get_read c.deref.result.now _ p c.in_default-get.field-0.now refl looked.3.0 looked.1 in
     not_there find c.args.places.now.items c.args.entry.now (rw c.in-Some.is at c.requires.placed.indexed) p
     (c.in_ok-place.ensures.value ∙ ap find c.requires.key)
-    (λ x e. absurd (none_some x (sym none ∙ same_Some _ _ (sym here ∙ e))))
+    (λ x e. absurd (none_is_not x (sym none ∙ same_Some _ _ (sym here ∙ e))))
 
 pub returns-in_default-get-2 : goal.returns-in_default-get-2
 returns-in_default-get-2 c =
@@ -36,7 +37,7 @@ returns-in_default-get-2 c =
     ∙ slice_get_past c.deref.result.now p past in
     not_there find c.args.places.now.items c.args.entry.now (rw c.in-Some.is at c.requires.placed.indexed) p
     (c.in_ok-place.ensures.value ∙ ap find c.requires.key)
-    (λ x e. absurd (none_some (Some x) (sym none ∙ e)))
+    (λ x e. absurd (none_is_not (Some x) (sym none ∙ e)))
 
 pub returns-then-ne : goal.returns-then-ne
 returns-then-ne c =
