@@ -15,7 +15,8 @@ use Rattle.std.proofs.lemmas.List.Folds.{list_any-append}
 use Rattle.std.proofs.lemmas.Option.{same_Some}
 use Rattle.std.proofs.Math.Bool.{or-false, or-true}
 use Rattle.std.specs.List.{list_any, slice_get}
-use Rattle.std.specs.Prelude.{List, Some, [], cond, false, if◌then◌else◌, not, set, suc, true, zero, ℕ, ◌++◌, ◌||◌, ◌∷◌, ◌≡◌}
+use Rattle.std.specs.Prelude.{List, Some, [], cond, false, if◌then◌else◌, not, set, suc, true, zero, ℕ, ◌++◌, ◌||◌, ◌∷◌}
+use Rattle.std.specs.Prelude.{◌≡◌}
 
 -- a list around a place, and once another element stands there
 pub cut : {X : Type 0} (xs : List X) (p : ℕ) (x w : X) → slice_get xs p ≡ Some x
@@ -55,7 +56,8 @@ replaced_around : (r k : Record RData) (a b : List (Record RData)) → list_any 
 replaced_around r k [] b before after same =
     λ i. cond-true (has_data_of r k) r k same i ∷ replaced_none r b after i
 replaced_around r k (x ∷ a) b before after same =
-    let parts : (has_data_of r x ≡ false) × (list_any (has_data_of r) a ≡ false) = or_parts (has_data_of r x) _ before in
+    let parts : (has_data_of r x ≡ false) × (list_any (has_data_of r) a ≡ false) =
+    or_parts (has_data_of r x) _ before in
     λ i. cond-false (has_data_of r x) r x parts.0 i ∷ replaced_around r k a b parts.1 after same i
 
 -- r joined to records of which one alone has its data stands in its place

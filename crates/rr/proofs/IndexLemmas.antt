@@ -1,8 +1,8 @@
 -- What an index of data says of the records, and what putting one in does to it.
-use Rattle.std.proofs.Common.{ℕ, zero, suc, Bool, true, false, List, [], ◌∷◌, ◌++◌, ◌≡◌, ◌≢◌, ◌<◌, ◌≤◌, ◌-◌, ◌&&◌}
+use Rattle.std.proofs.Common.{ℕ, zero, suc, Bool, true, false, List, [], ◌∷◌, ◌++◌, ◌≡◌, ◌≢◌, ◌<◌, ◌≤◌, ◌&&◌}
 use Rattle.std.proofs.Common.{nat_eq}
-use Rattle.std.proofs.Common.{map, ◌||◌, ◌⊎◌, inl, inr, refl, sym, ap, subst, ◌∙◌, length, get_or, set, arith, cond, take, drop}
-use Rattle.std.proofs.Common.{if◌then◌else◌, length-append}
+use Rattle.std.proofs.Common.{map, ◌||◌, ◌⊎◌, inl, inr, refl, sym, ap, subst, ◌∙◌, length, get_or, set, arith, cond}
+use Rattle.std.proofs.Common.{take, drop, if◌then◌else◌, length-append}
 use Rattle.std.specs.Prelude.{Option, Some, None, Vec, is_some}
 use Rattle.std.specs.BTreeMap.{BTreeMap, UpdatesBy}
 use Rattle.std.specs.Cmp.{eq_by_cmp_equiv, second_so}
@@ -96,7 +96,8 @@ none_any rdata [] h = refl
 none_any rdata (x ∷ xs) h = λ i. h 0 x (omega arith) i || none_any rdata xs (λ j d inside. h (suc j) d (omega arith)) i
 
 -- where no record has the data none is equal
-pub no_entry : (r : Record RData) (rs : List (Record RData)) → list_any (has_data_of r) rs ≡ false → has_entry r rs ≡ false
+pub no_entry : (r : Record RData) (rs : List (Record RData)) → list_any (has_data_of r) rs ≡ false
+    → has_entry r rs ≡ false
 no_entry r [] h = refl
 no_entry r (x ∷ xs) h =
     let parts : (has_data_of r x ≡ false) × (list_any (has_data_of r) xs ≡ false) = or_parts (has_data_of r x) _ h in
@@ -108,8 +109,11 @@ sides : (r : Record RData) (rs : List (Record RData)) (p : ℕ) → p < length r
     → ((i : ℕ) (d : Record RData) → i < length rs → i ≢ p → same_data (get_or rs i d).rdata r.rdata ≡ false)
     → (list_any (has_data_of r) (take p rs) ≡ false) × (list_any (has_data_of r) (drop (suc p) rs) ≡ false)
 sides r [] p inside others = absurd (omega arith)
-sides r (x ∷ xs) zero inside others = (refl, none_any r.rdata xs
-    (λ j d within. others (suc j) d (omega arith) (λ e. absurd (omega (arith, e)))))
+sides r (x ∷ xs) zero inside others = (
+  refl,
+  none_any r.rdata xs
+      (λ j d within. others (suc j) d (omega arith) (λ e. absurd (omega (arith, e)))),
+)
 sides r (x ∷ xs) (suc p) inside others =
     let rest = sides r xs p (omega arith)
     (λ j d within other. others (suc j) d (omega arith) (λ e. other (omega (arith, e)))) in
@@ -143,7 +147,8 @@ module _ (r : Record RData) (rs : List (Record RData)) (p : ℕ) (h : IsOnlyAt r
   -- whether an equal record of the same TTL is there, by that one
   pub entry_at : (x : Record RData) → x ≡ get_or rs p x → has_entry r rs ≡ (same_entry x r && nat_eq x.ttl r.ttl)
   entry_at x is = ap (has_entry r) around.0
-      ∙ list_any-append (λ (y : Record RData). same_entry y r && nat_eq y.ttl r.ttl) (take p rs) (known ∷ drop (suc p) rs)
+      ∙ list_any-append (λ (y : Record RData). same_entry y r && nat_eq y.ttl r.ttl) (take p rs)
+      (known ∷ drop (suc p) rs)
       ∙ (λ i. no_entry r (take p rs) none.0 i || ((same_entry known r && nat_eq known.ttl r.ttl)
       || no_entry r (drop (suc p) rs) none.1 i)) ∙ or-false (same_entry known r && nat_eq known.ttl r.ttl)
       ∙ ap (λ (y : Record RData). same_entry y r && nat_eq y.ttl r.ttl) (get_or_any rs p p r x refl h.inside ∙ sym is)
@@ -294,7 +299,8 @@ first_after r rs none = slice_get_end rs r ∙ sym (first_around r r rs [] none 
 -- the index has the place of the one that has the data
 pub place_is : (find : List ℕ → Option ℕ) (rs : List (Record RData)) (rdata : RData) (p : ℕ) (d : Record RData)
     → IsIndexOf find rs → IsOnlyAt rdata rs p → find (canonical_data rdata) ≡ Some p
-place_is find rs rdata p d h only = ap find (sym (one_key (get_or rs p d).rdata rdata (only.same d))) ∙ h.at p d only.inside
+place_is find rs rdata p d h only = ap find (sym (one_key (get_or rs p d).rdata rdata (only.same d)))
+    ∙ h.at p d only.inside
 
 pub none_of : (o : Option ℕ) → is_some o ≡ false → o ≡ None
 none_of None h = refl

@@ -12,7 +12,8 @@ use Rattle.rr.specs.PlacedRecords.{IsIn, IsIndexed, IsPlaceIndex, IsPlaced, pres
 use Rattle.rr.specs.SetChanges.{has_data_of, joined}
 use Rattle.rr.specs.SetUpdates.{has_data_of_one, without}
 use Rattle.rr.specs.declared.record.Record.{Record}
-use Rattle.std.proofs.Common.{ap, append_assoc, arith, drop, get_or, inl, inr, length-append, refl, subst, sym, take, ◌∙◌}
+use Rattle.std.proofs.Common.{ap, append_assoc, arith, drop, get_or, inl, inr, length-append, refl, subst, sym, take}
+use Rattle.std.proofs.Common.{◌∙◌}
 use Rattle.std.proofs.Common.{◌⊎◌}
 use Rattle.std.proofs.lemmas.Bool.{false_from_ne_true, true≢false}
 use Rattle.std.proofs.lemmas.List.{take-append-drop, take_more}

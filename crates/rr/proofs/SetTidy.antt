@@ -88,7 +88,8 @@ distinct_pushed r (x ∷ xs) h d =
     distinct_of x (xs ++ r ∷ []) (all_append (λ q. same_data x.rdata q.rdata ≡ false) xs (r ∷ []) parts.0 (none.0, tt))
     (distinct_pushed r xs none.1 parts.1)
 
-pub distinct_put : (r : Record RData) (xs : List (Record RData)) (b : Bool) → list_any (has_data_of r) xs ≡ b → Distinct xs
+pub distinct_put : (r : Record RData) (xs : List (Record RData)) (b : Bool) → list_any (has_data_of r) xs ≡ b
+    → Distinct xs
     → Distinct (replaced r xs ++ (if b then [] else r ∷ []))
 distinct_put r xs true h d = subst Distinct (sym (append-nil (replaced r xs))) (distinct_replaced r xs d)
 distinct_put r xs false h d = subst (λ ys. Distinct (ys ++ r ∷ [])) (sym (replaced_none r xs h))

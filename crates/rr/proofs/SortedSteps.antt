@@ -83,7 +83,8 @@ module _ (ds : List (Bor RData)) (x : RData) (h : IsInOrder ds) (fits : KeptData
   pub not_found : (i : ℕ) → IsPartitionPoint (λ (d : Bor RData). data_cmp d.now x ≡ Less)
       (λ (d : Bor RData). data_cmp d.now x ≡ Greater) ds i
       → list_any (λ (e : Bor RData). same_data x e.now) ds ≡ false
-  not_found i parts = list_any_none (λ (y : Bor RData). same_data x y.now) ds (λ k d below. false_from_ne_true _ (λ same.
+  not_found i parts = list_any_none (λ (y : Bor RData). same_data x y.now) ds
+      (λ k d below. false_from_ne_true _ (λ same.
       ⊎_elim (λ low. less_tied (sym (parts.0 k d (omega arith) low) ∙ tied k d below same))
       (λ high. greater_tied (sym (parts.1 k d high below) ∙ tied k d below same)) (cases_lt k i)))
 

@@ -40,8 +40,11 @@ without_none rs (x ∷ xs) h =
     ap (λ b. cond (not b) (x ∷ without rs xs) (without rs xs)) parts.0 ∙ ap (λ ys. x ∷ ys) (without_none rs xs parts.1)
 
 fewer : (rs xs : List (Record RData)) → length (without rs xs) ≤ length xs
-fewer rs xs = omega (arith, length-filter_both (λ x. not (has_data_of_one rs x))
-    (λ x. not (not (has_data_of_one rs x))) (λ x. refl) xs)
+fewer rs xs = omega (
+  arith,
+  length-filter_both (λ x. not (has_data_of_one rs x))
+      (λ x. not (not (has_data_of_one rs x))) (λ x. refl) xs,
+)
 
 -- where as many are left, none has such data
 none_at : (rs : List (Record RData)) (x : Record RData) (xs : List (Record RData)) (b : Bool)
