@@ -9,4 +9,5 @@ pub mod RecordLemmas
 pub mod SentLemmas
 pub mod SetLemmas
 pub mod SourceLemmas
+pub mod StandingLemmas
 pub mod WayLemmas

@@ -4,4 +4,5 @@ pub mod Found
 pub mod Lookup
 pub mod Reply
 pub mod Sent
+pub mod Standing
 pub mod ZoneRef

@@ -4,7 +4,7 @@ use Rattle.std.proofs.Common.{take, Option, Some, Ok, Err, Bool, true, false, co
 use Rattle.std.proofs.lemmas.List.{drop_more, map-append}
 use Rattle.std.specs.BTreeMap.{BTreeMap, get_by_text}
 use Rattle.std.specs.Map.{update}
-use Rattle.std.specs.Prelude.{String, map, option_map}
+use Rattle.std.specs.Prelude.{String, map, neg_ℤ, option_map, pos, ℤ}
 use Rattle.std.specs.Str.{bytes_eq}
 use Rattle.std.specs.String.{string_bytes}
 use Rattle.std.specs.declared.alloc.Global.{Global}
@@ -15,9 +15,11 @@ use Rattle.txt.specs.Parser.{ParserValue, named_texts, text_among, texts_in}
 use Rattle.txt.specs.Zone.{Texts, no_texts, placed_zone_by}
 use Rattle.txt.specs.declared.zone.fault.Inclusion.{Inclusion}
 use Rattle.capi.specs.Answer.{Asked, ◌>>=◌}
-use Rattle.capi.specs.ZoneCheck.{ToldFault, fault_told, last_name, with_texts, zone_checked}
+use Rattle.capi.specs.ZoneCheck.{IsChecked, ToldFault, fault_told, fronted, last_name, told_value, with_texts}
+use Rattle.capi.specs.ZoneCheck.{zone_checked}
 use Rattle.capi.specs.ZoneText.{characters, origin_of_text}
 use Rattle.capi.specs.declared.zone_check.Included.{Included}
+use Rattle.capi.specs.declared.zone_check.Told.{Told}
 
 -- the text that was opened last is named
 last_named : (name : List ℕ) (opened : List (List ℕ × ℕ)) (inclusion : List ℕ × ℕ)
@@ -120,3 +122,22 @@ checked_is origin text included bytes under chars texts told origin_is text_is t
     with_texts no_texts included bytes >>= λ ts. Ok (fault_told (placed_zone_by true ts under cs))) text_is
     ∙ ap (λ (asked : Asked Texts). asked >>= λ ts. Ok (fault_told (placed_zone_by true ts under chars))) texts_are
     ∙ ap Ok is
+
+-- what the caller is left with, where this is told
+pub is_told : (told : Told) (asked : Asked (Option ToldFault)) (old_name new_name old_words new_words : List ℕ)
+    (name_len words_len : ℕ) (result : ℤ) → asked ≡ Ok (Some (told_value told))
+    → new_name ≡ fronted (string_bytes told.name) old_name → new_words ≡ fronted (string_bytes told.words) old_words
+    → name_len ≡ length (string_bytes told.name) → words_len ≡ length (string_bytes told.words)
+    → result ≡ neg_ℤ (pos told.refusal.number)
+    → IsChecked asked old_name new_name old_words new_words
+    (record { line = told.line; column = told.column; name_len = name_len; words_len = words_len }) result
+is_told told asked old_name new_name old_words new_words name_len words_len result is name words names lens answer =
+    rw is (
+      record {
+        name = name;
+        words = string_bytes told.words;
+        words_are = words;
+        place = rw (names, lens) refl;
+      },
+      answer,
+    )
