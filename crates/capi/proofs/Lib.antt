@@ -5,6 +5,7 @@ mod CheckLemmas
 mod HandleLemmas
 mod HandleValues
 mod MessageLemmas
+mod ResponseLemmas
 mod SentLemmas
 mod SoundLemmas
 mod TextLemmas

@@ -8,10 +8,13 @@ use Rattle.capi.specs.Answer.{Asked, ◌>>=◌}
 use Rattle.capi.specs.Message.{message_of}
 use Rattle.capi.specs.declared.response.ResponseFacts.{ResponseFacts}
 
--- the response that the bytes begin with; a query is refused with 16
+-- a message that is a response; a query is refused with 16
+abbrev pub responding : MessageValue → Asked MessageValue
+responding m = if is_response m.metadata.message_type then Ok m else Err 16
+
+-- the response that the bytes begin with
 abbrev pub response_of : List ℕ → Asked MessageValue
-response_of bytes = message_of bytes >>= λ m.
-    if is_response m.metadata.message_type then Ok m else Err 16
+response_of bytes = message_of bytes >>= λ m. responding m
 
 -- what it says, and 1 where it answers some question (RFC 2308, 5; RFC 6891, 6.2.3)
 abbrev pub facts_of : MessageValue → ResponseFacts × ℕ
