@@ -21,7 +21,7 @@ module _ (bytes : List ℕ) (m : MessageValue) (e : ℕ) (stands : IsMessageAt b
   asks : response_of bytes ≡ responding m
   asks = ap (λ found. read found >>= λ n. responding n) (message_again bytes 0 m e stands)
 
-  by_type : MessageType → Asked MessageValue
+  abbrev by_type : MessageType → Asked MessageValue
   by_type t = if is_response t then Ok m else Err 16
 
   pub response_again : IsResponse m → response_of bytes ≡ Ok m

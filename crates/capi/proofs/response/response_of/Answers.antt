@@ -18,4 +18,4 @@ returns c =
     let found = c.in_ok-from_buffer.ensures.found in
     let m = c.in_ok-from_buffer.field-0.message in
     response_again c.args.bytes.now m found.0.0
-    (subst (λ (xs : List ℕ). IsMessageAt xs 0 m found.0.0) c.in_ok-from_slice.ensures.items found.0.1) found.1.0
+    (subst (λ (xs : List ℕ). IsMessageAt xs 0 m found.0.0) c.in_ok-from_slice.ensures.items found.0.1) found.1
