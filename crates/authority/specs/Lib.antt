@@ -1,7 +1,9 @@
 pub mod Answer
 pub mod Chain
+pub mod Filling
 pub mod Found
 pub mod Lookup
 pub mod Reply
 pub mod Sent
+pub mod Transfer
 pub mod ZoneRef
