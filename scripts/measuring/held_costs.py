@@ -1,4 +1,4 @@
-"""What an update of a zone that is held costs, and one that is refused, of zones of several sizes."""
+"""What an update of a zone that is held costs, and one that is refused, and an answer, of zones of several sizes."""
 import os
 
 from counting import instructions
@@ -27,21 +27,56 @@ UPDATES = {
 }
 
 
+
+def query(owner, kind=A):
+    """A query of `example.` for the type of a name, in hexadecimal."""
+    return f"00070100000100000000" + "0000" + f"{len(owner):02x}{owner.encode().hex()}" + "076578616D706C6500" + kind + IN
+
+
+# Each: the query, and the length of its answer.
+ANSWERS = {
+    "an address": (query(HERE), 48),
+    "no data: the SOA": (query(HERE, "001C"), 82),
+    "no name: the SOA": (query("none"), 80),
+}
+
+# the most instructions of an answer
+ANSWER_MOST = 15_000
+
+
+def write_zones(folder):
+    """The zones of so many names, as files."""
+    paths = [os.path.join(folder, f"zone{size}") for size in SIZES]
+    for size, path in zip(SIZES, paths):
+        with open(path, "w", encoding="utf-8") as file:
+            file.write(zone(size))
+    return paths
+
+
+def costs(program, paths, verb, name, lines, wanted):
+    """The instructions of one of these messages, for each zone, where what is printed is as wanted."""
+    given = "\n".join(lines).encode()
+    counts = []
+    for path in paths:
+        count, printed = instructions(program, [str(TIMES), path, verb], given, f"fuzsbanel_zone_{verb}")
+        if int(printed) != wanted * TIMES:
+            raise SystemExit(f"measure: {name}: the sum is {int(printed)} and not {wanted} each time")
+        counts.append(round(count / TIMES / len(lines)))
+    return counts
+
+
+def print_row(name, counts, note=""):
+    print("|", " | ".join([name, *(f"{count:,}{note if count > ANSWER_MOST and note else ''}" for count in counts)]), "|", flush=True)
+
+
 def measure(program, folder):
-    """Prints the instructions of one update of each, of zones of so many names."""
+    """Prints the instructions of one update of each, and of one answer, of zones of so many names."""
+    paths = write_zones(folder)
     print("| Update |", " | ".join(f"{size:,} names" for size in SIZES), "|")
     print("|---" * (1 + len(SIZES)) + "|", flush=True)
-    paths = []
-    for size in SIZES:
-        paths.append(os.path.join(folder, f"zone{size}"))
-        with open(paths[-1], "w", encoding="utf-8") as file:
-            file.write(zone(size))
     for name, (lines, codes) in UPDATES.items():
-        given = "\n".join(lines).encode()
-        counts = []
-        for path in paths:
-            count, printed = instructions(program, [str(TIMES), path], given, "fuzsbanel_zone_update")
-            if int(printed) != codes * TIMES:
-                raise SystemExit(f"measure: {name}: the codes are {int(printed)} and not {codes} each time")
-            counts.append(round(count / TIMES / len(lines)))
-        print("|", " | ".join([name, *(f"{count:,}" for count in counts)]), "|", flush=True)
+        print_row(name, costs(program, paths, "update", name, lines, codes))
+    print("\n| Answer |", " | ".join(f"{size:,} names" for size in SIZES), "|")
+    print("|---" * (1 + len(SIZES)) + "|", flush=True)
+    for name, (line, length) in ANSWERS.items():
+        print_row(name, costs(program, paths, "answer", name, [line], length), f" (over {ANSWER_MOST:,})")

@@ -1,7 +1,8 @@
 -- What follows of what is answered.
 use Rattle.authority.specs.Answer.{AnswerValue, answer, answer_found, negative, of_data, owns, with_authority}
 use Rattle.authority.specs.Chain.IsChain.{ends, leads}
-use Rattle.authority.specs.Chain.{AreLed}
+use Rattle.authority.proofs.StandingLemmas.{alias_owner}
+use Rattle.authority.specs.Chain.{AreLed, AreNew, IsChain}
 use Rattle.authority.specs.Answer.{is_none}
 use Rattle.authority.specs.Lookup.{Alias, Cut, Data, Finding, NoName, Outside, lookup}
 use Rattle.base.specs.names.Labels.{NameValue}
@@ -10,10 +11,10 @@ use Rattle.base_data.specs.declared.rdata.RData.{RData}
 use Rattle.op.specs.declared.response_code.ResponseCode.TheVariants.{NXDomain, ServFail}
 use Rattle.op_use.specs.Zone.{Zone}
 use Rattle.rr.specs.declared.record.Record.{Record}
-use Rattle.std.proofs.Common.{ap, append_assoc, arith, inl, inr, refl, sym, ◌+◌, ◌++◌, ◌≤◌, ◌∙◌}
+use Rattle.std.proofs.Common.{ap, append_assoc, arith, inl, inr, length, refl, subst, sym, ◌+◌, ◌++◌, ◌≤◌, ◌∙◌}
 use Rattle.std.proofs.lemmas.Bool.{false≢true}
 use Rattle.std.proofs.lemmas.List.{append-nil}
-use Rattle.std.specs.Prelude.{Bool, List, [], cond, false, not, suc, true, zero, ℕ, ◌∷◌, ◌≡◌}
+use Rattle.std.specs.Prelude.{Bool, List, [], cond, false, not, suc, true, zero, ℕ, ◌∷◌, ◌≡◌, ◌⊎◌}
 
 -- one of two answers
 either : (P : AnswerValue → Type 0) (b : Bool) (x y : AnswerValue) → P x → P y → P (cond b x y)
@@ -99,9 +100,19 @@ module _ (z : Zone) (t : RecordType) where
       → (last : NameValue) × (lookup z t last ≡ NoName) × ((answer z t room [] n).authorities ≡ negative z last)
   no_name_is_of_last room n h = no_name_by room [] n (lookup z t n) refl h
 
-  -- the chain
+  -- the chain, after records whose owners it doesn't have
+  record IsAfter (n : NameValue) (most : ℕ) (done rs : List (Record RData)) : Type 0 where
+    chain : List (Record RData)
+    last : NameValue
+    records : List (Record RData)
+    answers_are : rs ≡ chain ++ records
+    is_chain : IsChain z t n chain last
+    short : length chain ≤ most
+    distinct : AreNew done chain
+    found : (records ≡ []) ⊎ (lookup z t last ≡ Data records)
+
   abbrev IsLed : NameValue → ℕ → List (Record RData) → AnswerValue → Type 0
-  IsLed n most done a = (rs : List (Record RData)) × (a.answers ≡ done ++ rs) × AreLed z t n most rs
+  IsLed n most done a = (rs : List (Record RData)) × (a.answers ≡ done ++ rs) × IsAfter n most done rs
 
   nothing_more : (n : NameValue) (most : ℕ) (done : List (Record RData)) (a : AnswerValue) → a.answers ≡ done
       → IsLed n most done a
@@ -115,6 +126,7 @@ module _ (z : Zone) (t : RecordType) where
       answers_are = refl;
       is_chain = ends n;
       short = omega arith;
+      distinct = tt;
       found = inl refl;
     },
   )
@@ -132,13 +144,15 @@ module _ (z : Zone) (t : RecordType) where
       answers_are = refl;
       is_chain = ends n;
       short = omega arith;
+      distinct = tt;
       found = inr e;
     },
   )
 
   one_alias : (n target : NameValue) (most : ℕ) (done : List (Record RData)) (r : Record RData) (a : AnswerValue)
-      → lookup z t n ≡ Alias r target → 1 ≤ most → a.answers ≡ done ++ r ∷ [] → IsLed n most done a
-  one_alias n target most done r a e some h = (
+      → lookup z t n ≡ Alias r target → 1 ≤ most → owns n done ≡ false → a.answers ≡ done ++ r ∷ []
+      → IsLed n most done a
+  one_alias n target most done r a e some new h = (
     r ∷ [],
     h,
     record {
@@ -148,13 +162,15 @@ module _ (z : Zone) (t : RecordType) where
       answers_are = refl;
       is_chain = leads n target target r [] e (ends target);
       short = some;
+      distinct = (ap (λ o. owns o done) (alias_owner z t n r target e) ∙ new, tt);
       found = inl refl;
     },
   )
 
   alias_before : (n target : NameValue) (most : ℕ) (done : List (Record RData)) (r : Record RData) (a : AnswerValue)
-      → lookup z t n ≡ Alias r target → IsLed target most (done ++ r ∷ []) a → IsLed n (suc most) done a
-  alias_before n target most done r a e led = (
+      → lookup z t n ≡ Alias r target → owns n done ≡ false → IsLed target most (done ++ r ∷ []) a
+      → IsLed n (suc most) done a
+  alias_before n target most done r a e new led = (
     r ∷ led.0,
     led.1 ∙ append_assoc done (r ∷ []) led.0,
     record {
@@ -164,29 +180,37 @@ module _ (z : Zone) (t : RecordType) where
       answers_are = ap (λ xs. r ∷ xs) led.2.answers_are;
       is_chain = leads n target led.2.last r led.2.chain e led.2.is_chain;
       short = omega (arith, led.2.short);
+      distinct = (ap (λ o. owns o done) (alias_owner z t n r target e) ∙ new, led.2.distinct);
       found = led.2.found;
     },
   )
 
+  -- one of two answers, the second where the test fails
+  or_else : (P : AnswerValue → Type 0) (b c : Bool) (x y : AnswerValue) → b ≡ c → P x → (b ≡ false → P y)
+      → P (cond b x y)
+  or_else P b true x y e p q = subst (λ d. P (cond d x y)) (sym e) p
+  or_else P b false x y e p q = subst (λ d. P (cond d x y)) (sym e) (q e)
+
   led_by : (room : ℕ) (done : List (Record RData)) (n : NameValue) (f : Finding) → lookup z t n ≡ f
-      → IsLed n (suc room) done (answer_found z t room done n f)
+      → owns n done ≡ false → IsLed n (suc room) done (answer_found z t room done n f)
   unfolding answer_found
-  led_by room done n Outside e = nothing_more n (suc room) done (answer_found z t room done n Outside) refl
-  led_by room done n NoName e = nothing_more n (suc room) done (answer_found z t room done n NoName) refl
-  led_by room done n (Data rs) e = of_records n (suc room) done rs e
-  led_by room done n (Cut m) e = nothing_more n (suc room) done (answer_found z t room done n (Cut m)) refl
-  led_by zero done n (Alias r target) e =
-      one_alias n target 1 done r (with_authority ServFail (done ++ r ∷ []) [] []) e (omega arith) refl
-  led_by (suc room) done n (Alias r target) e =
+  led_by room done n Outside e new = nothing_more n (suc room) done (answer_found z t room done n Outside) refl
+  led_by room done n NoName e new = nothing_more n (suc room) done (answer_found z t room done n NoName) refl
+  led_by room done n (Data rs) e new = of_records n (suc room) done rs e
+  led_by room done n (Cut m) e new = nothing_more n (suc room) done (answer_found z t room done n (Cut m)) refl
+  led_by zero done n (Alias r target) e new =
+      one_alias n target 1 done r (with_authority ServFail (done ++ r ∷ []) [] []) e (omega arith) new refl
+  led_by (suc room) done n (Alias r target) e new =
       let failed : AnswerValue = with_authority ServFail (done ++ r ∷ []) [] [] in
       let more : AnswerValue = answer_found z t room (done ++ r ∷ []) target (lookup z t target) in
-      either (IsLed n (suc (suc room)) done) (owns target (done ++ r ∷ [])) failed more
-      (one_alias n target (suc (suc room)) done r failed e (omega arith) refl)
-      (alias_before n target (suc room) done r more e (led_by room (done ++ r ∷ []) target (lookup z t target) refl))
+      or_else (IsLed n (suc (suc room)) done) (owns target (done ++ r ∷ [])) (owns target (done ++ r ∷ [])) failed
+      more refl (one_alias n target (suc (suc room)) done r failed e (omega arith) new refl)
+      (λ fresh. alias_before n target (suc room) done r more e new
+      (led_by room (done ++ r ∷ []) target (lookup z t target) refl fresh))
 
   pub answers_are_led : (room : ℕ) (n : NameValue) → AreLed z t n (room + 1) (answer z t room [] n).answers
   answers_are_led room n =
-      let led = led_by room [] n (lookup z t n) refl in
+      let led = led_by room [] n (lookup z t n) refl refl in
       record {
         chain = led.2.chain;
         last = led.2.last;
@@ -194,5 +218,6 @@ module _ (z : Zone) (t : RecordType) where
         answers_are = led.1 ∙ led.2.answers_are;
         is_chain = led.2.is_chain;
         short = omega (arith, led.2.short);
+        distinct = led.2.distinct;
         found = led.2.found;
       }

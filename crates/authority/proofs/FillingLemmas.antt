@@ -13,7 +13,7 @@ use Rattle.rr.specs.declared.record.Record.{Record}
 use Rattle.std.proofs.Common.{ap, append_assoc, arith, drop, drop-cons, get_or, length, refl, sym, ◌+◌, ◌++◌, ◌<◌, ◌≤◌, ◌∙◌}
 use Rattle.std.proofs.lemmas.Bool.{cond-false, cond-true}
 use Rattle.std.proofs.Math.ListN.{drop_of_length-le}
-use Rattle.std.specs.Prelude.{List, [], false, map, not, true, ℕ, ◌∷◌, ◌≡◌}
+use Rattle.std.specs.Prelude.{List, [], false, map, not, suc, true, ℕ, ◌∷◌, ◌≡◌}
 
 plain-append : (xs ys : List (Record RData)) → plain_records (xs ++ ys) ≡ plain_records xs + plain_records ys
 plain-append [] ys = omega arith
@@ -38,8 +38,8 @@ fills_one r xs a b h = record {
 pub fills_full : (r : Record RData) (xs : List (Record RData)) (a b : Answers) → Adds r a false b
     → Fills (r ∷ xs) (r ∷ xs) a b × IsFull b.room (r ∷ xs)
 fills_full r xs a b h = (
-  fills_none (r ∷ xs) a b h.0 h.1.0,
-  record { first = r; more = xs; stands = refl; passes = omega (arith, h.1.0, h.1.1) },
+  fills_none (r ∷ xs) a b h.0 h.1,
+  record { first = r; more = xs; stands = refl; passes = omega (arith, h.1, h.2) },
 )
 
 -- first some, and then others
@@ -74,7 +74,9 @@ left_of class owner ttl rs i = map (record_of class owner ttl) (shown_from rs i)
 
 here : (rs : List (Record RData)) (i : ℕ) (r : Record RData) → i < length rs → r ≡ get_or rs i r
     → drop i rs ≡ r ∷ drop (i + 1) rs
-here rs i r below is = drop-cons rs i r below ∙ ap (λ x. x ∷ drop (i + 1) rs) (sym is)
+here rs i r below is =
+    let next : suc i ≡ i + 1 = omega arith in
+    drop-cons rs i r below ∙ ap (λ x. x ∷ drop (suc i) rs) (sym is) ∙ ap (λ n. r ∷ drop n rs) next
 
 module _ (class : DNSClass) (owner : NameValue) (ttl : ℕ) (rs : List (Record RData)) (i : ℕ) (r : Record RData)
     (below : i < length rs) (is : r ≡ get_or rs i r) where

@@ -11,5 +11,7 @@ pub mod SentLemmas
 pub mod SetLemmas
 pub mod SetsFromLemmas
 pub mod SourceLemmas
+pub mod StandingLemmas
+pub mod TransferSteps
 pub mod WayLemmas
 pub mod WholeLemmas

@@ -56,12 +56,13 @@ IsEnd all es = (front : List (RrKey × SetValue)) × (all ≡ front ++ es)
 from_is_end : (k : RrKey) (es : List (RrKey × SetValue)) → IsStrictlySortedBy key_cmp (keys_of es)
     → IsEnd es (filter (stands_from k) es)
 from_is_end k [] s = ([], refl)
-from_is_end k (e ∷ es) s = go (stands_from k e) refl where
-  go : (b : Bool) → stands_from k e ≡ b → IsEnd (e ∷ es) (filter (stands_from k) (e ∷ es))
-  go true t = ([], sym (cond-true _ _ _ t ∙ ap (λ xs. e ∷ xs)
+from_is_end k (e ∷ es) s =
+    go (stands_from k e) refl (from_is_end k es (sorted_tail key_cmp e.0 (keys_of es) s)) where
+  go : (b : Bool) → stands_from k e ≡ b → IsEnd es (filter (stands_from k) es)
+      → IsEnd (e ∷ es) (filter (stands_from k) (e ∷ es))
+  go true t more = ([], sym (cond-true _ _ _ t ∙ ap (λ xs. e ∷ xs)
       (all_from k e.0 es (sym (and-true (is_le (key_cmp k e.0))) ∙ t) (sorted_head key_cmp e.0 (keys_of es) s))))
-  go false t =
-      let more = from_is_end k es (sorted_tail key_cmp e.0 (keys_of es) s) in
+  go false t more =
       (e ∷ more.0, ap (λ xs. e ∷ xs) (more.1 ∙ ap (λ xs. more.0 ++ xs) (sym (cond-false _ _ _ t))))
 
 -- of one key after another, the other isn't from it on
@@ -75,10 +76,10 @@ to_itself k = go (key_cmp k k) refl where
   go Equal e = ap is_le e
   go Greater e = cc (key_cmp-total.antisymm k k ∙ ap ordering_reverse e)
 
-at_place : {P : RrKey → Type 0} (front : List (RrKey × SetValue)) (e : RrKey × SetValue)
+at_place : (P : RrKey → Type 0) (front : List (RrKey × SetValue)) (e : RrKey × SetValue)
     (es : List (RrKey × SetValue)) → AllByRecursion P (keys_of (front ++ e ∷ es)) → P e.0
-at_place [] e es (h, hs) = h
-at_place (x ∷ front) e es (h, hs) = at_place front e es hs
+at_place P [] e es (h, hs) = h
+at_place P (x ∷ front) e es (h, hs) = at_place P front e es hs
 
 -- those from the key of one of them on
 from_key : (front : List (RrKey × SetValue)) (e : RrKey × SetValue) (es : List (RrKey × SetValue))
@@ -87,7 +88,7 @@ from_key [] e es s =
     cond-true _ _ _ (both (is_le (key_cmp e.0 e.0)) true (to_itself e.0) refl) ∙ ap (λ xs. e ∷ xs)
     (all_from e.0 e.0 es (to_itself e.0) (sorted_head key_cmp e.0 (keys_of es) s))
 from_key (x ∷ front) e es s =
-    cond-false _ _ _ (not_from x.0 e.0 (at_place {P = λ q. key_cmp x.0 q ≡ Less} front e es
+    cond-false _ _ _ (not_from x.0 e.0 (at_place (λ q. key_cmp x.0 q ≡ Less) front e es
     (sorted_head key_cmp x.0 (keys_of (front ++ e ∷ es)) s)))
     ∙ from_key front e es (sorted_tail key_cmp x.0 (keys_of (front ++ e ∷ es)) s)
 
@@ -140,13 +141,14 @@ module _ (origin : NameValue) (class : DNSClass) where
   from_least : (es : List (RrKey × SetValue))
       → flat_map (given origin class 0) (filter (stands_from (least origin)) es) ≡ flat_map (given origin class 0) es
   from_least [] = refl
-  from_least (e ∷ es) = go (stands_from (least origin) e) refl where
+  from_least (e ∷ es) = go (stands_from (least origin) e) refl (from_least es) where
     go : (b : Bool) → stands_from (least origin) e ≡ b
+        → flat_map (given origin class 0) (filter (stands_from (least origin)) es) ≡ flat_map (given origin class 0) es
         → flat_map (given origin class 0) (filter (stands_from (least origin)) (e ∷ es))
         ≡ given origin class 0 e ++ flat_map (given origin class 0) es
-    go true t = ap (flat_map (given origin class 0)) (cond-true _ _ _ t)
-        ∙ ap (λ xs. given origin class 0 e ++ xs) (from_least es)
-    go false t = ap (flat_map (given origin class 0)) (cond-false _ _ _ t) ∙ from_least es
+    go true t more = ap (flat_map (given origin class 0)) (cond-true _ _ _ t)
+        ∙ ap (λ xs. given origin class 0 e ++ xs) more
+    go false t more = ap (flat_map (given origin class 0)) (cond-false _ _ _ t) ∙ more
         ∙ sym (ap (λ xs. xs ++ flat_map (given origin class 0) es) (before_none e t))
 
   pub all_between : (k : RrKey) (es : List (RrKey × SetValue)) → k ≡ least origin

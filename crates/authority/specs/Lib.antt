@@ -5,5 +5,6 @@ pub mod Found
 pub mod Lookup
 pub mod Reply
 pub mod Sent
+pub mod Standing
 pub mod Transfer
 pub mod ZoneRef

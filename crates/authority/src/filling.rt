@@ -75,11 +75,12 @@ impl Answers {
         let ttl = least_ttl(entries);
         let mut i = from;
         while i < entries.len() {
-            if entries[i].rdata.is_update() {
+            let entry = &entries[i];
+            if entry.rdata.is_update() {
                 i += 1;
                 continue;
             }
-            let record = record_of(set.name(), class, ttl, &entries[i].rdata)?;
+            let record = record_of(set.name(), class, ttl, &entry.rdata)?;
             if !self.add(record)? {
                 return Ok(Some(i));
             }

@@ -3,7 +3,18 @@
 ghost use Rattle.authority.specs.Answer.{answer, negative};
 ghost use Rattle.authority.specs.Chain.{AreLed};
 ghost use Rattle.authority.specs.Lookup.{Cut, NoName, cut_over, encloser, exists, has_servers, is_ds, lookup as the_finding, name_with, wildcard_below};
+ghost use Rattle.authority.specs.Reply.{reply};
 ghost use Rattle.authority.specs.Sent.{sent};
+ghost use Rattle.authority.specs.Standing.{StandsInZone};
+ghost use Rattle.authority.specs.ZoneRef.{AreUnderKeys};
+ghost use Rattle.base.specs.declared.dns_class.DNSClass.{DNSClass as Class};
+ghost use Rattle.base.specs.declared.rr_key.RrKey.{RrKey as Key};
+ghost use Rattle.op.specs.Message.{MessageValue};
+ghost use Rattle.op.specs.declared.response_code.ResponseCode.{ResponseCode as Code};
+ghost use Rattle.op_use.specs.Applying.{IsApplied, applied, zone_of_map};
+ghost use Rattle.op_use.specs.Server.{Sections};
+ghost use Rattle.rr.specs.RecordSet.{SetValue};
+ghost use Rattle.std.specs.BTreeMap.{BTreeMap as Tree};
 ghost use Rattle.authority.specs.declared.sending.Carrier.{Carrier as Means};
 ghost use Rattle.base.specs.declared.error.proto_error.ProtoError.{ProtoError as Refusal};
 ghost use Rattle.base.specs.names.Labels.{NameValue};
@@ -11,6 +22,7 @@ ghost use Rattle.base.specs.names.Parents.{is_below, is_within};
 ghost use Rattle.base.specs.declared.record_type.RecordType.{RecordType as Kind};
 ghost use Rattle.op.specs.declared.response_code.ResponseCode.TheVariants.{NXDomain};
 ghost use Rattle.op_use.specs.Zone.{Zone};
+ghost use Rattle.std.specs.List.{AllByRecursion};
 ghost use Rattle.std.specs.Prelude.{Bool, Err, List, None, [], false, true, ℕ, ◌+◌, ◌++◌, ◌↔◌, ◌≡◌, ◌≢◌};
 
 /// Where a zone has no name, nothing stands at the name nor below it, nor at the asterisk below its closest encloser,
@@ -57,10 +69,17 @@ pub fn no_name_is_of_the_last()
 
 /// Answers are a chain of aliases, each what the zone has for the name to which the one before it leads, and then the
 /// records that it has for the last name, or none. Where there is room for so many more aliases, there is one more at
-/// most (RFC 1034, 3.6.2).
+/// most, and no owner of an alias comes twice (RFC 1034, 3.6.2).
 pub fn answers_are_led()
     ensures { (z : Zone) (t : Kind) (room : ℕ) (n : NameValue)
         → AreLed z t n (room + 1) (answer z t room [] n).answers }
+{}
+
+/// The data of each answer stands in a set of the zone that is its owner's or, where nothing stands at the owner or below
+/// it, that of the asterisk below its closest encloser (RFC 4592, 3.3.2).
+pub fn answers_stand_in_the_zone()
+    ensures { (z : Zone) (t : Kind) (room : ℕ) (n : NameValue)
+        → AllByRecursion (StandsInZone z) (answer z t room [] n).answers }
 {}
 
 /// What is sent always has room, since 512 bytes hold the header and the one question of any reply, so that `respond`
@@ -68,4 +87,17 @@ pub fn answers_are_led()
 pub fn responses_have_room()
     ensures { (z : Zone) (carrier : Means) (received : List ℕ) (e : Refusal)
         → sent z carrier received ≢ Err e }
+{}
+
+/// A reply after an update is that from the zone which RFC 2136 makes of the old one, where the map is what
+/// `apply_update` answers; and each of its sets stands under its own key, as `reply` and `respond` ask.
+pub fn updates_are_answered()
+    ensures replies { (origin : NameValue) (class : Class) (s : Sections)
+        (old : Tree Key SetValue) (code : Code) (new : Tree Key SetValue) (m : MessageValue)
+        → IsApplied origin class s old code new
+        → reply (zone_of_map origin class new) m
+        ≡ reply (applied (zone_of_map origin class old) s).1 m }
+    ensures keys { (origin : NameValue) (class : Class) (s : Sections) (old : Tree Key SetValue)
+        (code : Code) (new : Tree Key SetValue)
+        → IsApplied origin class s old code new → AreUnderKeys new }
 {}

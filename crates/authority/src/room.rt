@@ -1,12 +1,13 @@
 //! How many bytes records take at most: those that they have without compression (RFC 1035, 3.2.1 and 4.1.4).
 
+ghost use Rattle.base.specs.declared.limits.TheConstants.{MAX_NAME};
 ghost use Rattle.base.specs.names.Labels.{plain_len};
 ghost use Rattle.base_data.specs.Kinds.{plain_data};
 ghost use Rattle.base_data.specs.OPT.{options_len};
 ghost use Rattle.base.specs.names.Labels.{wire_of};
 ghost use Rattle.authority.specs.Transfer.{room_beside as the_room};
 ghost use Rattle.rr.specs.Record.{plain_record};
-ghost use Rattle.std.specs.Prelude.{MatchOption, length, ◌+◌, ◌<◌, ◌≡◌};
+ghost use Rattle.std.specs.Prelude.{MatchOption, length, ◌+◌, ◌<◌, ◌≡◌, ◌≤◌};
 
 use base::Name;
 use base::limits::MAX_MESSAGE;
@@ -24,8 +25,8 @@ pub(crate) fn room_beside(questions: &[Query]) -> usize
 {
     let mut left = usize::from(MAX_MESSAGE) - HEADER_AND_EDNS;
     for question in questions {
-        // the name's zero byte, type and class
-        left = left.saturating_sub(question.name.as_wire().len() + 5);
+        // the name, type and class
+        left = left.saturating_sub(name_len(&question.name) + 4);
     }
     left
 }
@@ -41,12 +42,20 @@ pub(crate) fn room_after(room: usize, record: &Record) -> Option<usize>
     room_after_data(after_fields, &record.rdata)
 }
 
+/// The bytes of a name.
+fn name_len(name: &Name) -> usize
+    ensures len { result ≡ plain_len name.now.labels }
+    ensures short { result ≤ MAX_NAME }
+{
+    name.as_wire().len() + 1
+}
+
 /// What is left after a name.
 fn room_after_name(room: usize, name: &Name) -> Option<usize>
     ensures { MatchOption result (room < plain_len name.now.labels)
         (λ left. left + plain_len name.now.labels ≡ room) }
 {
-    room.checked_sub(name.as_wire().len() + 1)
+    room.checked_sub(name_len(name))
 }
 
 /// What is left after data.

@@ -1,0 +1,242 @@
+-- What is answered stands in the zone.
+use Rattle.authority.specs.Chain.IsChain.{ends, leads}
+use Rattle.authority.specs.Chain.{AreLed, IsChain}
+use Rattle.authority.specs.Lookup.{Alias, Cut, Data, Finding, NoName, Outside, alias_at, alias_else, alias_in, alias_or}
+use Rattle.authority.specs.Lookup.{asked, at_source, cut_else, cut_over, least_ttl, lookup, record_of, records}
+use Rattle.authority.specs.Lookup.{records_of, shown, source, target_of}
+use Rattle.authority.specs.Standing.{StandsIn, StandsInZone}
+use Rattle.base.proofs.names.KeyLemmas.{key_cmp-exact}
+use Rattle.base.specs.names.Labels.{NameValue}
+use Rattle.base.specs.names.NameOrder.{exact, lowered}
+use Rattle.base.specs.names.NameOrderLaws.{same_by-equiv}
+use Rattle.base.specs.names.Parents.{is_within}
+use Rattle.base.specs.RrKey.{key_cmp, key_of}
+use Rattle.base.specs.declared.dns_class.DNSClass.{DNSClass}
+use Rattle.base.specs.declared.record_type.RecordType.TheVariants as types
+use Rattle.base.specs.declared.record_type.RecordType.{RecordType}
+use Rattle.base.specs.declared.rr_key.RrKey.{RrKey}
+use Rattle.base_data.specs.RData.{is_empty_data}
+use Rattle.base_data.specs.declared.rdata.RData.{RData}
+use Rattle.op_use.specs.Server.{is_any, is_cname}
+use Rattle.op_use.specs.Zone.{Datum, Zone, at, is_owned}
+use Rattle.rr.specs.declared.record.Record.{Record}
+use Rattle.std.proofs.Common.{ap, inl, inr, refl, subst, sym, ◌++◌, ◌∙◌}
+use Rattle.std.proofs.lemmas.Option.{same_Some}
+use Rattle.std.specs.FinMap as fin
+use Rattle.std.specs.List.{AllByRecursion, filter, flat_map}
+use Rattle.std.specs.Ordering.{is_eq}
+use Rattle.std.specs.Prelude.{Bool, List, None, Option, Some, [], cond, false, map, not, true, unwrap_or, ℕ, ◌||◌, ◌∷◌, ◌≡◌}
+use Rattle.std.specs.Prelude.{◌⊎◌}
+use Rattle.std.specs.declared.cmp.Ordering.TheVariants.{Equal, Greater, Less}
+use Rattle.std.specs.declared.cmp.Ordering.{Ordering}
+
+stands_here : {X : Type 0} (x : X) (xs : List X) → StandsIn (x ∷ xs) x
+stands_here x xs = record { before = []; after = xs; whole = refl }
+
+stands_later : {X : Type 0} (x y : X) (xs : List X) → StandsIn xs x → StandsIn (y ∷ xs) x
+stands_later x y xs h = record { before = y ∷ h.before; after = h.after; whole = ap (λ zs. y ∷ zs) h.whole }
+
+all-append : {X : Type 0} (P : X → Type 0) (xs ys : List X) → AllByRecursion P xs → AllByRecursion P ys
+    → AllByRecursion P (xs ++ ys)
+all-append P [] ys h k = k
+all-append P (x ∷ xs) ys h k = (h.0, all-append P xs ys h.1 k)
+
+-- what holds of the records of all data holds of those that are answered
+module _ (P : Record RData → Type 0) (class : DNSClass) (n : NameValue) (ttl : ℕ) where
+  by_test : (b : Bool) (d : Datum) (ds : List Datum) → P (record_of class n ttl d)
+      → AllByRecursion P (map (record_of class n ttl) (shown ds))
+      → AllByRecursion P (map (record_of class n ttl) (cond b (d ∷ shown ds) (shown ds)))
+  by_test true d ds h more = (h, more)
+  by_test false d ds h more = more
+
+  each_shown : (ds : List Datum) → ((d : Datum) → StandsIn ds d → P (record_of class n ttl d))
+      → AllByRecursion P (map (record_of class n ttl) (shown ds))
+  each_shown [] f = tt
+  each_shown (d ∷ ds) f = by_test (not (is_empty_data d.rdata)) d ds (f d (stands_here d ds))
+      (each_shown ds (λ e h. f e (stands_later e d ds h)))
+
+-- the alias that is first among records is one of them
+module _ (P : Record RData → Type 0) (r : Record RData) (target : NameValue) where
+  alias_by : (x : Record RData) (o : Option NameValue) (more : Option (Record RData × NameValue)) → P x
+      → (more ≡ Some (r, target) → P r) → alias_or x o more ≡ Some (r, target) → P r
+  alias_by x (Some m) more p q h = subst P (ap (λ (a : Record RData × NameValue). a.0) (same_Some _ _ h)) p
+  alias_by x None more p q h = q h
+
+  alias_holds : (rs : List (Record RData)) → AllByRecursion P rs → alias_in rs ≡ Some (r, target) → P r
+  alias_holds [] all h = absurd (no h) where
+    no : ◌≡◌ {A = Option (Record RData × NameValue)} None (Some (r, target)) → ⊥
+    no e = cc
+  alias_holds (x ∷ rs) all h = alias_by x (target_of x.rdata) (alias_in rs) all.0 (alias_holds rs all.1) h
+
+-- ---- what was found
+
+-- what holds of the alias that was found, or of the records
+abbrev pub OfFound : (Record RData → Type 0) → Finding → Type 0
+OfFound P Outside = Unit {0}
+OfFound P NoName = Unit {0}
+OfFound P (Cut m) = Unit {0}
+OfFound P (Alias r target) = P r
+OfFound P (Data rs) = AllByRecursion P rs
+
+module _ (P : Record RData → Type 0) (z : Zone) (t : RecordType) (n : NameValue) where
+  of_else : (a : Option (Record RData × NameValue)) (rs : List (Record RData))
+      → ((r : Record RData) (target : NameValue) → a ≡ Some (r, target) → P r) → AllByRecursion P rs
+      → OfFound P (alias_else a rs)
+  of_else (Some (r, target)) rs f h = f r target refl
+  of_else None rs f h = h
+
+  of_source : (o : Option NameValue) → source z n ≡ o
+      → ((s : NameValue) → source z n ≡ Some s → (r : Record RData) (target : NameValue)
+      → alias_at z t n s ≡ Some (r, target) → P r)
+      → ((s : NameValue) → source z n ≡ Some s → AllByRecursion P (asked z t n s)) → OfFound P (at_source z t n o)
+  of_source None e f g = tt
+  of_source (Some s) e f g = of_else (alias_at z t n s) (asked z t n s) (f s e) (g s e)
+
+  of_cut : (b : Bool) (c : Option NameValue) (f : Finding) → OfFound P f → OfFound P (cond b (cut_else c f) Outside)
+  of_cut false c f h = tt
+  of_cut true (Some m) f h = tt
+  of_cut true None f h = h
+
+  of_lookup : ((s : NameValue) → source z n ≡ Some s → (r : Record RData) (target : NameValue)
+      → alias_at z t n s ≡ Some (r, target) → P r)
+      → ((s : NameValue) → source z n ≡ Some s → AllByRecursion P (asked z t n s)) → OfFound P (lookup z t n)
+  of_lookup f g = of_cut (is_within z.origin n) (cut_over z t n) (at_source z t n (source z n))
+      (of_source (source z n) refl f g)
+
+-- ---- owners
+
+module _ (z : Zone) (t : RecordType) (n : NameValue) where
+  abbrev HasOwner : Record RData → Type 0
+  HasOwner r = r.name ≡ n
+
+  owned_records : (ds : List Datum) → AllByRecursion HasOwner (records_of z.class n ds)
+  owned_records ds = each_shown HasOwner z.class n (least_ttl (shown ds)) ds (λ d h. refl)
+
+  alias_of : (b : Bool) (rs : List (Record RData)) (r : Record RData) (target : NameValue) (P : Record RData → Type 0)
+      → AllByRecursion P rs → cond b None (alias_in rs) ≡ Some (r, target) → P r
+  alias_of true rs r target P all h = absurd (no h) where
+    no : ◌≡◌ {A = Option (Record RData × NameValue)} None (Some (r, target)) → ⊥
+    no e = cc
+  alias_of false rs r target P all h = alias_holds P r target rs all h
+
+  owned_at : (s : NameValue) (r : Record RData) (target : NameValue) → alias_at z t n s ≡ Some (r, target)
+      → HasOwner r
+  owned_at s r target h = alias_of (is_cname t || is_any t) (records z n (key_of s types.CNAME)) r target HasOwner
+      (owned_records (at z (key_of s types.CNAME))) h
+
+  owned_sets : (es : List (RrKey × List Datum))
+      → AllByRecursion HasOwner (flat_map (λ (e : RrKey × List Datum). records_of z.class n e.1) es)
+  owned_sets [] = tt
+  owned_sets (e ∷ es) = all-append HasOwner (records_of z.class n e.1) (flat_map (λ
+      (e : RrKey × List Datum). records_of z.class n e.1) es) (owned_records e.1) (owned_sets es)
+
+  owned_asked_by : (b : Bool) (s : NameValue) → AllByRecursion HasOwner (cond b
+      (flat_map (λ (e : RrKey × List Datum). records_of z.class n e.1)
+      (filter (λ (e : RrKey × List Datum). is_owned s e.0) (fin.entries z.sets))) (records z n (key_of s t)))
+  owned_asked_by true s =
+      owned_sets (filter (λ (e : RrKey × List Datum). is_owned s e.0) (fin.entries z.sets))
+  owned_asked_by false s = owned_records (at z (key_of s t))
+
+  pub owners_found : OfFound HasOwner (lookup z t n)
+  owners_found = of_lookup HasOwner z t n (λ s e r target h. owned_at s r target h)
+      (λ s e. owned_asked_by (is_any t) s)
+
+  pub alias_owner : (r : Record RData) (target : NameValue) → lookup z t n ≡ Alias r target → r.name ≡ n
+  alias_owner r target h = subst (OfFound HasOwner) h owners_found
+
+-- ---- where it stands
+
+module _ (z : Zone) (t : RecordType) (n s : NameValue) (is_source : source z n ≡ Some s) where
+  abbrev Stands : Record RData → Type 0
+  Stands r = StandsInZone z r
+
+  -- the records of a set that stands in the zone
+  of_set : (set : RrKey × List Datum) → StandsIn (fin.entries z.sets) set → is_owned s set.0 ≡ true
+      → AllByRecursion Stands (records_of z.class n set.1)
+  of_set set stands owned = each_shown Stands z.class n (least_ttl (shown set.1)) set.1 (λ d there. record {
+    from = s;
+    is_source = is_source;
+    set = set;
+    stands = stands;
+    is_of_source = owned;
+    datum = d;
+    is_there = there;
+    same = refl;
+  })
+
+  abbrev More : List (RrKey × List Datum) → Type 0
+  More xs = AllByRecursion Stands (flat_map (λ (e : RrKey × List Datum). records_of z.class n e.1) xs)
+
+  of_sets : (es : List (RrKey × List Datum)) → ((e : RrKey × List Datum) → StandsIn es e
+      → StandsIn (fin.entries z.sets) e) → AllByRecursion Stands
+      (flat_map (λ (e : RrKey × List Datum). records_of z.class n e.1)
+      (filter (λ (e : RrKey × List Datum). is_owned s e.0) es))
+  of_sets [] there = tt
+  of_sets (e ∷ es) there = go (is_owned s e.0) refl (of_sets es (λ x h. there x (stands_later x e es h))) where
+    go : (b : Bool) → is_owned s e.0 ≡ b → More (filter (λ (e : RrKey × List Datum). is_owned s e.0) es)
+        → More (cond b (e ∷ filter (λ (e : RrKey × List Datum). is_owned s e.0) es) (filter (λ
+        (e : RrKey × List Datum). is_owned s e.0) es))
+    go true owned more = all-append Stands (records_of z.class n e.1) (flat_map (λ
+        (e : RrKey × List Datum). records_of z.class n e.1) (filter (λ (e : RrKey × List Datum). is_owned s e.0) es))
+        (of_set e (there e (stands_here e es)) owned) more
+    go false owned more = more
+
+  -- the records under a key of the source
+  found_set : (q : RrKey) (es : List (RrKey × List Datum)) (ds : List Datum) → fin.find key_cmp q es ≡ Some ds
+      → StandsIn es (q, ds)
+  found_set q [] ds h = absurd (no h) where
+    no : ◌≡◌ {A = Option (List Datum)} None (Some ds) → ⊥
+    no e = cc
+  found_set q ((k, v) ∷ es) ds h = go (key_cmp q k) refl h (found_set q es ds) where
+    go : (o : Ordering) → key_cmp q k ≡ o → cond (is_eq o) (Some v) (fin.find key_cmp q es) ≡ Some ds
+        → (fin.find key_cmp q es ≡ Some ds → StandsIn es (q, ds)) → StandsIn ((k, v) ∷ es) (q, ds)
+    go Equal e found more = subst (λ (x : RrKey × List Datum). StandsIn ((k, v) ∷ es) x)
+        (λ i. (sym (key_cmp-exact q k e) i, same_Some v ds found i)) (stands_here (k, v) es)
+    go Less e found more = stands_later (q, ds) (k, v) es (more found)
+    go Greater e found more = stands_later (q, ds) (k, v) es (more found)
+
+  of_found : (q : RrKey) (o : Option (List Datum)) → fin.get z.sets q ≡ o → is_owned s q ≡ true
+      → AllByRecursion Stands (records_of z.class n (unwrap_or o []))
+  of_found q None e owned = tt
+  of_found q (Some ds) e owned = of_set (q, ds) (found_set q (fin.entries z.sets) ds (sym (fin.get-entries z.sets q) ∙ e))
+      owned
+
+  of_type : (k : RecordType) → AllByRecursion Stands (records z n (key_of s k))
+  of_type k = of_found (key_of s k) (fin.get z.sets (key_of s k)) refl ((same_by-equiv exact).refl (lowered s))
+
+  stands_asked_by : (b : Bool) → AllByRecursion Stands (cond b
+      (flat_map (λ (e : RrKey × List Datum). records_of z.class n e.1)
+      (filter (λ (e : RrKey × List Datum). is_owned s e.0) (fin.entries z.sets))) (records z n (key_of s t)))
+  stands_asked_by true = of_sets (fin.entries z.sets) (λ e h. h)
+  stands_asked_by false = of_type t
+
+  pub stands_alias : (r : Record RData) (target : NameValue) → alias_at z t n s ≡ Some (r, target) → Stands r
+  stands_alias r target h = alias_of z t n (is_cname t || is_any t) (records z n (key_of s types.CNAME)) r target Stands
+      (of_type types.CNAME) h
+
+  pub stands_asked : AllByRecursion Stands (asked z t n s)
+  stands_asked = stands_asked_by (is_any t)
+
+module _ (z : Zone) (t : RecordType) where
+  abbrev IsThere : Record RData → Type 0
+  IsThere r = StandsInZone z r
+
+  pub found_stands : (n : NameValue) → OfFound IsThere (lookup z t n)
+  found_stands n = of_lookup IsThere z t n (λ s e r target h. stands_alias z t n s e r target h)
+      (λ s e. stands_asked z t n s e)
+
+  chain_stands : (n last : NameValue) (rs : List (Record RData)) → IsChain z t n rs last → AllByRecursion IsThere rs
+  chain_stands n last [] (ends m) = tt
+  chain_stands n last (r ∷ rs) (leads m target end x xs found more) =
+      (subst (OfFound IsThere) found (found_stands m), chain_stands target end xs more)
+
+  last_stands : (n : NameValue) (rs : List (Record RData)) → (rs ≡ []) ⊎ (lookup z t n ≡ Data rs)
+      → AllByRecursion IsThere rs
+  last_stands n rs (inl none) = subst (AllByRecursion IsThere) (sym none) tt
+  last_stands n rs (inr found) = subst (OfFound IsThere) found (found_stands n)
+
+  pub led_stand : (n : NameValue) (most : ℕ) (answers : List (Record RData)) → AreLed z t n most answers
+      → AllByRecursion IsThere answers
+  led_stand n most answers led = subst (AllByRecursion IsThere) (sym led.answers_are)
+      (all-append IsThere led.chain led.records (chain_stands n led.last led.chain led.is_chain)
+      (last_stands led.last led.records led.found))
