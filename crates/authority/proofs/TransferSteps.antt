@@ -1,11 +1,12 @@
 -- The steps in which answers of a zone transfer are gathered.
-use Rattle.authority.proofs.FillingLemmas.{fills_before, fills_full, fills_one, fills_then, full_before, left_begins}
-use Rattle.authority.proofs.FillingLemmas.{left_of, left_skips}
+use Rattle.authority.proofs.FillingLemmas.{fills_before, fills_full, fills_none, fills_one, fills_then, full_before}
+use Rattle.authority.proofs.FillingLemmas.{left_begins, left_of, left_skips}
 use Rattle.authority.proofs.SetsFromLemmas.{IsEnd, all_between, end_from, given_none, given_some}
+use Rattle.authority.proofs.WholeLemmas.{transfer_whole}
 use Rattle.authority.specs.Filling.{Adds, Fills, FillsTo}
-use Rattle.authority.specs.Lookup.{record_of}
-use Rattle.authority.specs.Transfer.{IsFull, between, given_from, is_between, is_end, left_at, plain_records}
-use Rattle.authority.specs.Transfer.{records_from}
+use Rattle.authority.specs.Lookup.{least_ttl, record_of, shown}
+use Rattle.authority.specs.Transfer.{IsFull, IsNext, between, given_from, is_between, is_end, left_at, plain_records}
+use Rattle.authority.specs.Transfer.{records_from, room_beside, transferring}
 use Rattle.authority.specs.declared.filling.Answers.{Answers}
 use Rattle.authority.specs.declared.transferring.TransferPlace.TheVariants as places
 use Rattle.authority.specs.declared.transferring.TransferPlace.{TransferPlace}
@@ -15,16 +16,18 @@ use Rattle.base.specs.declared.dns_class.DNSClass.{DNSClass}
 use Rattle.base.specs.declared.rr_key.RrKey.{RrKey}
 use Rattle.base_data.specs.RData.{is_empty_data}
 use Rattle.base_data.specs.declared.rdata.RData.{RData}
+use Rattle.op.specs.Message.{MessageValue}
+use Rattle.op.specs.MessageWritten.{AreWhole, parts_of}
 use Rattle.op_use.proofs.OwnerKeys.{least}
 use Rattle.op_use.specs.NamedChanges.{datum_of}
 use Rattle.rr.specs.RecordSet.{SetValue}
 use Rattle.rr.specs.declared.record.Record.{Record}
-use Rattle.std.proofs.Common.{ap, arith, get_or, inl, inr, length, refl, subst, sym, ◌+◌, ◌++◌, ◌<◌, ◌∙◌}
+use Rattle.std.proofs.Common.{ap, arith, get_or, inl, inr, length, refl, subst, sym, ◌+◌, ◌++◌, ◌-◌, ◌<◌, ◌∙◌}
 use Rattle.std.specs.BTreeMap.Range.{entries_between}
 use Rattle.std.specs.BTreeMap.{BTreeMap}
 use Rattle.std.specs.List.Sorted.{IsStrictlySortedBy}
 use Rattle.std.specs.Map.{keys_of}
-use Rattle.std.specs.Prelude.{List, [], false, true, ℕ, ◌∷◌, ◌≡◌, ◌⊎◌}
+use Rattle.std.specs.Prelude.{List, [], false, map, true, ℕ, ◌∷◌, ◌≡◌, ◌≢◌, ◌⊎◌}
 use Rattle.std.specs.declared.ops.Bound.TheVariants.{Included, Unbounded}
 
 -- ---- the records of a set
@@ -58,6 +61,25 @@ module _ (class : DNSClass) (owner : NameValue) (ttl : ℕ) (rs : List (Record R
         let full = fills_full x xs b c h in
         subst (λ ys. Fills before ys a c × IsFull c.room ys) (sym begins)
         (fills_then before (x ∷ xs) (x ∷ xs) a b c from_here full.0, full.1)
+
+-- before the first
+pub set_begins : (class : DNSClass) (owner : NameValue) (ttl : ℕ) (rs xs : List (Record RData)) (i : ℕ) (a : Answers)
+    → ttl ≡ least_ttl (shown (map datum_of rs)) → rs ≡ xs
+    → Fills (left_of class owner (least_ttl (shown (map datum_of xs))) xs i) (left_of class owner ttl rs i) a a
+set_begins class owner ttl rs xs i a h same =
+    let whole : List (Record RData) = left_of class owner (least_ttl (shown (map datum_of xs))) xs i in
+    subst (λ ys. Fills whole ys a a)
+    (ap (λ (zs : List (Record RData)). left_of class owner (least_ttl (shown (map datum_of zs))) zs i) (sym same)
+    ∙ ap (λ n. left_of class owner n rs i) (sym h))
+    (fills_none whole a a refl refl)
+
+-- the same as they are named from a set
+pub set_from : (class : DNSClass) (owner : NameValue) (ttl : ℕ) (rs xs : List (Record RData)) (i : ℕ)
+    → ttl ≡ least_ttl (shown (map datum_of rs)) → rs ≡ xs
+    → left_of class owner ttl rs i ≡ left_of class owner (least_ttl (shown (map datum_of xs))) xs i
+set_from class owner ttl rs xs i h same =
+    ap (λ n. left_of class owner n rs i) h
+    ∙ ap (λ (zs : List (Record RData)). left_of class owner (least_ttl (shown (map datum_of zs))) zs i) same
 
 -- ---- the sets of a map
 
@@ -170,3 +192,22 @@ module _ (origin : NameValue) (class : DNSClass) (sets : BTreeMap RrKey SetValue
           → IsFull a.room (left place)
       go stays room (inl e) = absurd (left_some place more (sym stays ∙ left_none next e))
       go stays room (inr h) = subst (λ xs. IsFull a.room xs) stays (subst (λ n. IsFull n (left next)) room h)
+
+  -- what was added is the next message
+  pub next_is : (m : MessageValue) (place next : TransferPlace) (a b : Answers) (message : MessageValue)
+      → a.records.items ≡ [] → a.room ≡ room_beside m.queries → b.records.items ≢ [] → FillsTo left place a next b
+      → message ≡ transferring m place b.records.items → IsNext origin class sets soa m place message next
+  next_is m place next a b message none room some (f, full) is =
+      let rs : List (Record RData) = b.records.items in
+      let counted : plain_records rs + b.room ≡ room_beside m.queries = omega (arith, f.counted, ap plain_records none,
+      room) in
+      let left_room : b.room ≡ room_beside m.queries - plain_records rs = omega (arith, counted) in
+      record {
+        answers = rs;
+        is_message = is;
+        in_order = sym (f.moved ∙ ap (λ xs. xs ++ left place) none);
+        some = some;
+        whole = subst (λ (x : MessageValue). AreWhole (parts_of 65535 x 12 [])) (sym is)
+            (transfer_whole m place rs b.room some counted);
+        full = subst (λ n. (is_end next ≡ true) ⊎ IsFull n (left next)) left_room full;
+      }

@@ -50,13 +50,13 @@ impl Answers {
     }
 
     /// Adds a record, if it has room; answers whether it has.
-    fn add(&mut self, record: Record) -> Result<bool, AllocError>
-        ensures { IfOk result (λ added. Adds record self.old added self.new) }
+    fn add(&mut self, answer: Record) -> Result<bool, AllocError>
+        ensures { IfOk result (λ added. Adds answer self.old added self.new) }
     {
-        let Some(room) = room_after(self.room, &record) else {
+        let Some(room) = room_after(self.room, &answer) else {
             return Ok(false);
         };
-        self.records.push(record)?;
+        self.records.push(answer)?;
         self.room = room;
         Ok(true)
     }

@@ -32,14 +32,14 @@ pub(crate) fn room_beside(questions: &[Query]) -> usize
 }
 
 /// What is left of so much room after a record without compression, if it has room.
-pub(crate) fn room_after(room: usize, record: &Record) -> Option<usize>
-    ensures { MatchOption result (room < plain_record record.now)
-        (λ left. left + plain_record record.now ≡ room) }
+pub(crate) fn room_after(room: usize, entry: &Record) -> Option<usize>
+    ensures { MatchOption result (room < plain_record entry.now)
+        (λ left. left + plain_record entry.now ≡ room) }
 {
-    let after_name = room_after_name(room, &record.name)?;
+    let after_name = room_after_name(room, &entry.name)?;
     // type, class, TTL and the length of the data
     let after_fields = after_name.checked_sub(10)?;
-    room_after_data(after_fields, &record.rdata)
+    room_after_data(after_fields, &entry.rdata)
 }
 
 /// The bytes of a name.

@@ -1,5 +1,3 @@
-use Rattle.authority.proofs.WholeLemmas.{transfer_whole}
-use Rattle.authority.proofs.TransferSteps.{nothing_fits}
 use Rattle.authority.proofs.AnswerLaws.{answers_are_led}
 use Rattle.authority.proofs.laws.answers_are_led.Goals as goal
 
