@@ -25,7 +25,8 @@ use Rattle.std.proofs.lemmas.Option.{same_Some}
 use Rattle.std.specs.FinMap as fin
 use Rattle.std.specs.List.{AllByRecursion, filter, flat_map}
 use Rattle.std.specs.Ordering.{is_eq}
-use Rattle.std.specs.Prelude.{Bool, List, None, Option, Some, [], cond, false, map, not, true, unwrap_or, ℕ, ◌||◌, ◌∷◌, ◌≡◌}
+use Rattle.std.specs.Prelude.{Bool, List, None, Option, Some, [], cond, false, map, not, true, unwrap_or, ℕ, ◌||◌, ◌∷◌}
+use Rattle.std.specs.Prelude.{◌≡◌}
 use Rattle.std.specs.Prelude.{◌⊎◌}
 use Rattle.std.specs.declared.cmp.Ordering.TheVariants.{Equal, Greater, Less}
 use Rattle.std.specs.declared.cmp.Ordering.{Ordering}
@@ -198,7 +199,8 @@ module _ (z : Zone) (t : RecordType) (n s : NameValue) (is_source : source z n �
   of_found : (q : RrKey) (o : Option (List Datum)) → fin.get z.sets q ≡ o → is_owned s q ≡ true
       → AllByRecursion Stands (records_of z.class n (unwrap_or o []))
   of_found q None e owned = tt
-  of_found q (Some ds) e owned = of_set (q, ds) (found_set q (fin.entries z.sets) ds (sym (fin.get-entries z.sets q) ∙ e))
+  of_found q (Some ds) e owned = of_set (q, ds)
+    (found_set q (fin.entries z.sets) ds (sym (fin.get-entries z.sets q) ∙ e))
       owned
 
   of_type : (k : RecordType) → AllByRecursion Stands (records z n (key_of s k))

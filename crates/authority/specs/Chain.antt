@@ -20,7 +20,8 @@ abbrev pub AreNew : List (Record RData) → List (Record RData) → Type 0
 AreNew before [] = Unit {0}
 AreNew before (r ∷ rs) = (owns r.name before ≡ false) × AreNew (before ++ r ∷ []) rs
 
--- Answers are a chain of aliases, so many at most, of which no owner comes twice, and then the records that the zone has for the last name, or none.
+-- Answers are a chain of aliases, so many at most, of which no owner comes twice, and then the records that the zone
+-- has for the last name, or none.
 pub record AreLed (z : Zone) (t : RecordType) (n : NameValue) (most : ℕ) (answers : List (Record RData)) : Type 0 where
   pub chain : List (Record RData)
   pub last : NameValue

@@ -75,8 +75,8 @@ pub fn answers_are_led()
         → AreLed z t n (room + 1) (answer z t room [] n).answers }
 {}
 
-/// The data of each answer stands in a set of the zone that is its owner's or, where nothing stands at the owner or below
-/// it, that of the asterisk below its closest encloser (RFC 4592, 3.3.2).
+/// The data of each answer stands in a set of the zone that is its owner's or, where nothing stands at the owner or
+/// below it, that of the asterisk below its closest encloser (RFC 4592, 3.3.2).
 pub fn answers_stand_in_the_zone()
     ensures { (z : Zone) (t : Kind) (room : ℕ) (n : NameValue)
         → AllByRecursion (StandsInZone z) (answer z t room [] n).answers }
