@@ -10,7 +10,8 @@ use Rattle.base_data.specs.RData.{is_empty_data}
 use Rattle.base_data.specs.declared.rdata.RData.{RData}
 use Rattle.op_use.specs.NamedChanges.{datum_of}
 use Rattle.rr.specs.declared.record.Record.{Record}
-use Rattle.std.proofs.Common.{ap, append_assoc, arith, drop, drop-cons, get_or, length, refl, sym, ◌+◌, ◌++◌, ◌<◌, ◌≤◌, ◌∙◌}
+use Rattle.std.proofs.Common.{ap, append_assoc, arith, drop, drop-cons, get_or, length, refl, sym, ◌+◌, ◌++◌, ◌<◌, ◌≤◌}
+use Rattle.std.proofs.Common.{◌∙◌}
 use Rattle.std.proofs.lemmas.Bool.{cond-false, cond-true}
 use Rattle.std.proofs.Math.ListN.{drop_of_length-le}
 use Rattle.std.specs.Prelude.{List, [], false, map, not, suc, true, ℕ, ◌∷◌, ◌≡◌}

@@ -58,12 +58,15 @@ from_is_end : (k : RrKey) (es : List (RrKey × SetValue)) → IsStrictlySortedBy
 from_is_end k [] s = ([], refl)
 from_is_end k (e ∷ es) s =
     go (stands_from k e) refl (from_is_end k es (sorted_tail key_cmp e.0 (keys_of es) s)) where
-  go : (b : Bool) → stands_from k e ≡ b → IsEnd es (filter (stands_from k) es)
-      → IsEnd (e ∷ es) (filter (stands_from k) (e ∷ es))
-  go true t more = ([], sym (cond-true _ _ _ t ∙ ap (λ xs. e ∷ xs)
-      (all_from k e.0 es (sym (and-true (is_le (key_cmp k e.0))) ∙ t) (sorted_head key_cmp e.0 (keys_of es) s))))
-  go false t more =
-      (e ∷ more.0, ap (λ xs. e ∷ xs) (more.1 ∙ ap (λ xs. more.0 ++ xs) (sym (cond-false _ _ _ t))))
+      go : (b : Bool) → stands_from k e ≡ b → IsEnd es (filter (stands_from k) es)
+          → IsEnd (e ∷ es) (filter (stands_from k) (e ∷ es))
+      go true t more = (
+        [],
+        sym (cond-true _ _ _ t ∙ ap (λ xs. e ∷ xs)
+            (all_from k e.0 es (sym (and-true (is_le (key_cmp k e.0))) ∙ t) (sorted_head key_cmp e.0 (keys_of es) s))),
+      )
+      go false t more =
+          (e ∷ more.0, ap (λ xs. e ∷ xs) (more.1 ∙ ap (λ xs. more.0 ++ xs) (sym (cond-false _ _ _ t))))
 
 -- of one key after another, the other isn't from it on
 not_from : (a k : RrKey) → key_cmp a k ≡ Less → (is_le (key_cmp k a) && true) ≡ false

@@ -200,7 +200,7 @@ module _ (z : Zone) (t : RecordType) (n s : NameValue) (is_source : source z n �
       → AllByRecursion Stands (records_of z.class n (unwrap_or o []))
   of_found q None e owned = tt
   of_found q (Some ds) e owned = of_set (q, ds)
-    (found_set q (fin.entries z.sets) ds (sym (fin.get-entries z.sets q) ∙ e))
+      (found_set q (fin.entries z.sets) ds (sym (fin.get-entries z.sets q) ∙ e))
       owned
 
   of_type : (k : RecordType) → AllByRecursion Stands (records z n (key_of s k))

@@ -113,9 +113,10 @@ module _ (origin : NameValue) (class : DNSClass) (all it es : List (RrKey × Set
         = ap (λ q. given_from origin class n (entries_between key_cmp (Included q) Unbounded all)) same
         ∙ ap (given_from origin class n) (end_from all it es e sorted end is)
         ∙ given_some origin class n e es stands in
-        subst (λ ws. Fills before ws a c × IsFull c.room ws) (sym here)
-        (fills_then before (xs ++ ys) (zs ++ ys) a b c from_set (fills_before xs zs ys b c g.0),
-        full_before c.room zs ys g.1)
+        subst (λ ws. Fills before ws a c × IsFull c.room ws) (sym here) (
+          fills_then before (xs ++ ys) (zs ++ ys) a b c from_set (fills_before xs zs ys b c g.0),
+          full_before c.room zs ys g.1,
+        )
 
 -- ---- a transfer
 
@@ -199,8 +200,12 @@ module _ (origin : NameValue) (class : DNSClass) (sets : BTreeMap RrKey SetValue
       → message ≡ transferring m place b.records.items → IsNext origin class sets soa m place message next
   next_is m place next a b message none room some (f, full) is =
       let rs : List (Record RData) = b.records.items in
-      let counted : plain_records rs + b.room ≡ room_beside m.queries = omega (arith, f.counted, ap plain_records none,
-      room) in
+      let counted : plain_records rs + b.room ≡ room_beside m.queries = omega (
+        arith,
+        f.counted,
+        ap plain_records none,
+        room,
+      ) in
       let left_room : b.room ≡ room_beside m.queries - plain_records rs = omega (arith, counted) in
       record {
         answers = rs;

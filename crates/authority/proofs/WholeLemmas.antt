@@ -1,5 +1,5 @@
 -- A message whose records have room without compression isn't cut.
-use Rattle.authority.specs.Reply.{edns_of_reply}
+use Rattle.authority.specs.Reply.{edns_of_reply, one_question}
 use Rattle.authority.specs.Transfer.{plain_records, questions_at, room_beside, transferring}
 use Rattle.authority.specs.declared.transferring.TransferPlace.TheVariants as places
 use Rattle.authority.specs.declared.transferring.TransferPlace.{TransferPlace}
@@ -67,8 +67,11 @@ module _ (limit : ℕ) (m : MessageValue) (opt : ℕ)
       (omega (arith, records_most m.authorities p.answers.end p.answers.piece.suffixes, ap plain_records none))
       (omega (arith, room, queries.1, answers.1)) in
       let additionals = part_fits record_written limit 0 m.additionals p.authorities.end p.authorities.piece.suffixes
-      (omega (arith, records_most m.additionals p.authorities.end p.authorities.piece.suffixes,
-      ap plain_records no_more)) (omega (arith, room, queries.1, answers.1, authorities.1)) in
+      (omega (
+        arith,
+        records_most m.additionals p.authorities.end p.authorities.piece.suffixes,
+        ap plain_records no_more,
+      )) (omega (arith, room, queries.1, answers.1, authorities.1)) in
       let opts : List (Record RData) = as_list (option_map edns_record (raised m)) in
       let edns_fits = part_fits record_written limit opt opts p.additionals.end p.additionals.piece.suffixes
       (omega (arith, records_most opts p.additionals.end p.additionals.piece.suffixes, edns))
@@ -85,7 +88,8 @@ module _ (limit : ℕ) (m : MessageValue) (opt : ℕ)
 
 -- EDNS of a reply takes eleven bytes
 opt_most : (code : ResponseCode) (e : Option Edns)
-    → plain_records (as_list (option_map edns_record (option_map (with_high_bits code) (option_map edns_of_reply e)))) ≤ 11
+    → plain_records (as_list (option_map edns_record (option_map (with_high_bits code) (option_map edns_of_reply e)))) ≤
+    11
 opt_most code None = omega arith
 opt_most code (Some e) = omega arith
 
@@ -100,9 +104,20 @@ some_bytes : (rs : List (Record RData)) → rs ≢ [] → 1 ≤ plain_records rs
 some_bytes [] some = absurd (some refl)
 some_bytes (r ∷ rs) some = omega arith
 
+few_asked : (qs : List Query) → plain_queries (one_question qs) ≤ plain_queries qs
+few_asked [] = omega arith
+few_asked (q ∷ []) = omega arith
+few_asked (q ∷ (r ∷ qs)) = omega arith
+
 -- a message of a transfer whose answers have room isn't cut
 pub transfer_whole : (m : MessageValue) (place : TransferPlace) (rs : List (Record RData)) (left : ℕ) → rs ≢ []
     → plain_records rs + left ≡ room_beside m.queries → AreWhole (parts_of 65535 (transferring m place rs) 12 [])
 transfer_whole m place rs left some room =
     is_whole 65535 (transferring m place rs) 11 refl refl refl (opt_most NoError m.edns)
-    (omega (arith, room, some_bytes rs some, few_questions place m.queries))
+    (omega (
+      arith,
+      room,
+      some_bytes rs some,
+      few_questions place (one_question m.queries),
+      few_asked m.queries,
+    ))

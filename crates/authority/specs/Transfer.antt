@@ -1,7 +1,7 @@
 -- The messages of a zone transfer (RFC 5936, 2.2).
 use Rattle.authority.specs.Answer.{with_authority}
 use Rattle.authority.specs.Lookup.{least_ttl, record_of, shown}
-use Rattle.authority.specs.Reply.{framed, header_refusal, only_code}
+use Rattle.authority.specs.Reply.{framed, header_refusal, one_question, only_code}
 use Rattle.authority.specs.declared.transferring.TransferPlace.TheVariants as places
 use Rattle.authority.specs.declared.transferring.TransferPlace.{TransferPlace}
 use Rattle.base.specs.declared.dns_class.DNSClass.{DNSClass}
@@ -19,7 +19,8 @@ use Rattle.op.specs.Message.{MessageValue}
 use Rattle.op.specs.MessageType.{is_response}
 use Rattle.op.specs.MessageWritten.{AreWhole, parts_of}
 use Rattle.op.specs.declared.query.Query.{Query}
-use Rattle.op.specs.declared.response_code.ResponseCode.TheVariants.{FormErr, NoError, NotAuth, NotImp, Refused, ServFail}
+use Rattle.op.specs.declared.response_code.ResponseCode.TheVariants.{FormErr, NoError, NotAuth, NotImp, Refused}
+use Rattle.op.specs.declared.response_code.ResponseCode.TheVariants.{ServFail}
 use Rattle.op_use.specs.Applying.{data_in_set}
 use Rattle.op_use.specs.NamedChanges.{datum_of}
 use Rattle.op_use.specs.Server.{StepCode, and_then, unless}
@@ -30,7 +31,8 @@ use Rattle.rr.specs.declared.record.Record.{Record}
 use Rattle.std.specs.BTreeMap.Range.{entries_between}
 use Rattle.std.specs.BTreeMap.{BTreeMap, get}
 use Rattle.std.specs.List.{flat_map}
-use Rattle.std.specs.Prelude.{Bool, List, None, Option, Some, [], drop, false, if◌then◌else◌, is_some, map, not, true, ℕ}
+use Rattle.std.specs.Prelude.{Bool, List, None, Option, Some, [], drop, false, if◌then◌else◌, is_some, map, not, true}
+use Rattle.std.specs.Prelude.{ℕ}
 use Rattle.std.specs.Prelude.{slice_get, ◌&&◌, ◌+◌, ◌++◌, ◌-◌, ◌<◌, ◌||◌, ◌∷◌, ◌≡◌, ◌≢◌, ◌⊎◌}
 use Rattle.std.specs.declared.ops.Bound.TheVariants.{Included, Unbounded}
 
@@ -105,7 +107,7 @@ abbrev pub is_end : TransferPlace → Bool
 is_end places.End = true
 is_end _ = false
 
--- the questions of a message of a transfer: the first has that of the query
+-- the questions of a message of a transfer: the first has the question of the query
 abbrev pub questions_at : TransferPlace → List Query → List Query
 questions_at places.Start qs = qs
 questions_at _ qs = []
@@ -113,7 +115,7 @@ questions_at _ qs = []
 -- a message of a transfer, with these answers and AA
 abbrev pub transferring : MessageValue → TransferPlace → List (Record RData) → MessageValue
 transferring m place rs = record (framed m (with_authority NoError rs [] [])) {
-  queries = questions_at place m.queries;
+  queries = questions_at place (one_question m.queries);
 }
 
 -- the bytes of records without compression
@@ -132,7 +134,8 @@ pub record IsFull (room : ℕ) (rs : List (Record RData)) : Type 0 where
 abbrev pub room_beside : List Query → ℕ
 room_beside qs = MAX_MESSAGE - (12 + 11 + plain_queries qs)
 
--- A message of a transfer with this SOA, and the place after it: its answers are the next of those that are left, one at
+-- A message of a transfer with this SOA, and the place after it: its answers are the next of those that are left, one
+-- at
 -- least; none of it is cut; and it ends only with the last, or before one that has no room.
 pub record IsNext (origin : NameValue) (class : DNSClass) (sets : BTreeMap RrKey SetValue) (soa : Record RData)
     (query : MessageValue) (place : TransferPlace) (message : MessageValue) (next : TransferPlace) : Type 0 where
@@ -150,7 +153,8 @@ abbrev pub IsNextOf : NameValue → DNSClass → BTreeMap RrKey SetValue → Rec
 IsNextOf origin class sets soa query place (Some r) = IsNext origin class sets soa query place r.0 r.1
 IsNextOf origin class sets soa query place None = ⊥
 
--- What comes next in a transfer: nothing to a response, nor at the end; the code of a refusal alone, and the end; or the
+-- What comes next in a transfer: nothing to a response, nor at the end; the code of a refusal alone, and the end; or
+-- the
 -- next message.
 abbrev pub IsStep : NameValue → DNSClass → BTreeMap RrKey SetValue → MessageValue → TransferPlace → Bool → StepCode
     → Option (MessageValue × TransferPlace) → Type 0

@@ -34,7 +34,12 @@ pub(crate) fn least_ttl(records: &[Record]) -> u32
 }
 
 /// A record of this owner, class and TTL.
-pub(crate) fn record_of(owner: &Name, class: DNSClass, ttl: u32, rdata: &RData) -> Result<Record, AllocError>
+pub(crate) fn record_of(
+    owner: &Name,
+    class: DNSClass,
+    ttl: u32,
+    rdata: &RData,
+) -> Result<Record, AllocError>
     ensures { IfOk result (λ r. r
         ≡ record {
           name = owner.now;

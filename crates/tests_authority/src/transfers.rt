@@ -56,7 +56,8 @@ const REFUSED: &[Row] = &[
 ];
 
 /// A query for the zone, with EDNS.
-const QUERY: &[u8] = b"\x12\x34\x01\x00\x00\x01\x00\x00\x00\x00\x00\x01\x07EXAMPLE\x00\x00\xFC\x00\x01\x00\x00\x29\x10\x00\x00\x00\x80\x00\x00\x00";
+const QUERY: &[u8] =
+    b"\x12\x34\x01\x00\x00\x01\x00\x00\x00\x00\x00\x01\x07EXAMPLE\x00\x00\xFC\x00\x01\x00\x00\x29\x10\x00\x00\x00\x80\x00\x00\x00";
 
 /// What was transferred.
 #[derive(Drop)]
@@ -158,7 +159,9 @@ fn wide_text(alloc: Global, count: u32) -> Result<String, Fail> {
     for number in 0..count {
         let high = number / 256 % 256;
         let low = number % 256;
-        let line = format!(in alloc; "large A 10.0.{high}.{low}\nhost-{number} A 10.1.{high}.{low}\n")?;
+        let line = format!(in alloc;
+            "large A 10.0.{high}.{low}\nhost-{number} A 10.1.{high}.{low}\n"
+        )?;
         text.push_str(&line)?;
     }
     Ok(text)

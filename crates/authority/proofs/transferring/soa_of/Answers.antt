@@ -1,0 +1,25 @@
+use Rattle.std.proofs.Common.{rules, IfErr, IfOk, IsOkUnless, false, option_map, ◌≡◌, ◌⊎◌, ℕ, ◌+◌, ◌-◌, ◌*◌, ◌<◌, ◌≤◌, length, ◌/◌, ◌%◌, Bool, true, nat_eq, nat_lt, List, [], ◌∷◌, ◌++◌, slice_index_or, slice_set, bit_and, bit_or, Fits, w8, w32, w64, Bor, MutBor}
+use Rattle.authority.specs.Reply.{framed as the_frame}
+use Rattle.authority.specs.Reply.{header_refusal as the_header_refusal}
+use Rattle.authority.specs.Reply.{only_code as the_code}
+use Rattle.authority.specs.Transfer.{IsFull, IsNextOf, IsTooLarge, IsTransferred}
+use Rattle.authority.specs.Transfer.{axfr_refusal as the_axfr_refusal}
+use Rattle.authority.specs.Transfer.{is_end, left_at}
+use Rattle.authority.specs.Transfer.{one_axfr_refusal as the_one_refusal}
+use Rattle.authority.specs.Transfer.{room_beside as the_room}
+use Rattle.authority.specs.Transfer.{soa_of as the_soa}
+use Rattle.op.specs.Message.{message_value}
+use Rattle.op_use.specs.Server.{and_then}
+use Rattle.authority.proofs.transferring.soa_of.Goals as goal
+
+-- src/transferring.rt:141:9
+pub returns-in_default-clause-value : goal.returns-in_default-clause-value
+returns-in_default-clause-value c = ?
+
+-- src/transferring.rt:138:1
+pub returns-in-Some-first-clause-value : goal.returns-in-Some-first-clause-value
+returns-in-Some-first-clause-value c = ?
+
+-- src/transferring.rt:135:1
+pub returns-clause-value : goal.returns-clause-value
+returns-clause-value c = ?
