@@ -1,20 +1,35 @@
-use Rattle.std.proofs.Common.{rules, MatchOption, length, ◌+◌, ◌<◌, ◌≡◌, ◌≤◌, ℕ, ◌-◌, ◌*◌, ◌/◌, ◌%◌, Bool, true, false, nat_eq, nat_lt, List, [], ◌∷◌, ◌++◌, slice_index_or, slice_set, bit_and, bit_or, Fits, w8, w32, w64, Bor, MutBor}
-use Rattle.base.specs.declared.limits.TheConstants.{MAX_NAME}
-use Rattle.base.specs.names.Labels.{plain_len, wire_of}
-use Rattle.base_data.specs.Kinds.{plain_data}
-use Rattle.base_data.specs.OPT.{options_len}
-use Rattle.authority.specs.Transfer.{room_beside as the_room}
-use Rattle.rr.specs.Record.{plain_record}
 use Rattle.authority.proofs.room.room_after_strings.Goals as goal
+use Rattle.base.specs.names.Labels.{size_of, wire_of}
+use Rattle.base.specs.reading.PointerLemmas.{length-wire_of}
+use Rattle.std.proofs.Common.{MatchOption, ap, arith, length, subst, sym, ◌+◌, ◌<◌, ◌≡◌}
+use Rattle.std.specs.Prelude.{None, Option, ℕ}
 
--- src/room.rt:95:16
+-- no room is none
+none_left : (room total : ℕ) (o : Option ℕ) → o ≡ None → room < total
+    → MatchOption o (room < total) (λ left. left + total ≡ room)
+none_left room total o is less = subst (λ x. MatchOption x (room < total) (λ left. left + total ≡ room)) (sym is) less
+
 pub returns-in_err-checked_sub : goal.returns-in_err-checked_sub
-returns-in_err-checked_sub c = ?
+returns-in_err-checked_sub c =
+    none_left c.args.room (length (wire_of c.args.txt.now)) c.from_residual.result c.from_residual.ensures (omega (
+      arith,
+      length-wire_of c.args.txt.now,
+      ap size_of c.in-Some.ensures.steps,
+      c.loop-string.invariant,
+      c.in_err-checked_sub.ensures,
+    ))
 
--- src/room.rt:95:16
 pub returns-in_err-left : goal.returns-in_err-left
-returns-in_err-left c = ?
+returns-in_err-left c =
+    none_left c.args.room (length (wire_of c.args.txt.now)) c.from_residual-in_err-left.result
+    c.from_residual-in_err-left.ensures (omega (
+      arith,
+      length-wire_of c.args.txt.now,
+      ap size_of c.in-Some.ensures.steps,
+      c.loop-string.invariant,
+      c.in_ok-checked_sub.ensures,
+      c.in_err-left.ensures,
+    ))
 
--- src/room.rt:89:1
 pub returns : goal.returns
-returns c = ?
+returns c = omega (arith, length-wire_of c.args.txt.now, ap size_of c.in-None.ensures.steps.0, c.loop-string.invariant)
