@@ -206,6 +206,33 @@ int64_t fuzsbanel_data_text(const uint8_t *message, size_t len, size_t place, ui
 int64_t fuzsbanel_zone(const uint8_t *origin, size_t origin_len, const uint8_t *text, size_t text_len, uint8_t *out,
                        size_t cap, size_t *needed);
 
+/* A text that zone text may include by `$INCLUDE`: how many bytes its name has, and how many it. */
+struct fuzsbanel_included {
+    size_t name_len;
+    size_t text_len;
+};
+
+/* Where zone text is refused: the line and the column, from 1, the column in bytes; how many bytes the name of the
+ * included text has, 0 where the fault stands in the text itself; and how many bytes the words have. */
+struct fuzsbanel_fault {
+    size_t line;
+    size_t column;
+    size_t name_len;
+    size_t words_len;
+};
+
+/* Says where the text of a zone is refused, and for what, as a zone checker does; answers 0 where it isn't. The texts that
+ * may be included stand in `bytes` one after the other, each after its name, and `included` says how long they are; of
+ * texts of one name the last stands. Of a fault in a text, the place of the first token that makes it is filled in; `name`
+ * gets the name of the included text that it stands in, and `words` the reason, as `invalid data for type A`, each cut
+ * where it has no room: `*fault` says how long they are. Of any other answer both stay, and `*fault` is 0 throughout.
+ * Refuses with 17 to 24. 20 has the words `no text named NAME to include`, so a caller may read that text, and ask
+ * again. */
+int64_t fuzsbanel_zone_check(const uint8_t *origin, size_t origin_len, const uint8_t *text, size_t text_len,
+                             const struct fuzsbanel_included *included, size_t included_len, const uint8_t *bytes,
+                             size_t bytes_len, uint8_t *name, size_t name_cap, uint8_t *words, size_t words_cap,
+                             struct fuzsbanel_fault *fault);
+
 /* Writes what the server of the zone `origin` makes of an update message and the zone's text: a line with its code, as
  * `NoError` or `YXRRSet`, and the zone then, as fuzsbanel_zone has it (RFC 2136, 3), which is the text of the next call.
  * Of any code but `NoError` the zone is as it was. An `$ORIGIN` of the text says how its names end, and never which zone

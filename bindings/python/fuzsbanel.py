@@ -3,7 +3,7 @@
 
 Everything here is a call of include/fuzsbanel.h, whose comments say what each does; this file adds bytes, exceptions and
 generators, and no logic of DNS. It needs Python 3.8 or later, and the shared object that `make -C bindings/c` builds in
-bindings/c/build, or the one that FUZSBANEL_LIB names.
+bindings/c/build, which `pip install ./bindings/python` puts beside it, or the one that FUZSBANEL_LIB names.
 
     >>> import fuzsbanel
     >>> query = bytes.fromhex("00010100000100000000000001610000010001")
@@ -38,15 +38,18 @@ import operator
 import os
 import sys
 import threading
-from typing import Iterator, NamedTuple, Optional, Tuple, Union
+from types import MappingProxyType
+from typing import Iterator, Mapping, NamedTuple, Optional, Tuple, Union
 
 __all__ = [
-    "EdnsOption", "Header", "Query", "Record", "Refusal", "Zone", "append", "apply", "check", "compare_and_swap", "create", "cut",
-    "data_text", "delete_all", "delete_by_rdata", "delete_rrset", "header", "name", "options", "queries", "query", "record",
-    "records", "text", "walk", "zone", "zone_transfer",
+    "EdnsOption", "Fault", "Header", "Query", "Record", "Refusal", "Zone", "append", "apply", "check", "compare_and_swap",
+    "create", "cut", "data_text", "delete_all", "delete_by_rdata", "delete_rrset", "header", "name", "options", "queries",
+    "query", "record", "records", "text", "walk", "zone", "zone_check", "zone_transfer",
 ]
 
-BUILT = os.path.normpath(os.path.join(os.path.dirname(os.path.realpath(__file__)), "../c/build/libfuzsbanel.so"))
+HERE = os.path.dirname(os.path.realpath(__file__))
+BUILT = os.path.normpath(os.path.join(HERE, "../c/build/libfuzsbanel.so"))
+INSTALLED = os.path.join(HERE, "libfuzsbanel.so")
 
 
 def loaded(path: str) -> ctypes.CDLL:
@@ -62,7 +65,7 @@ def loaded(path: str) -> ctypes.CDLL:
     return ctypes.CDLL(path)
 
 
-LIBRARY = loaded(os.environ.get("FUZSBANEL_LIB", BUILT))
+LIBRARY = loaded(os.environ.get("FUZSBANEL_LIB", INSTALLED if os.path.exists(INSTALLED) else BUILT))
 
 NO_ROOM = -100
 LONGEST_NAME = 1004
@@ -174,6 +177,14 @@ class ZoneHandle(ctypes.Structure):
     _fields_ = [("at", ctypes.c_void_p), ("is_open", ctypes.c_bool)]
 
 
+class IncludedFields(ctypes.Structure):
+    _fields_ = [("name_len", ctypes.c_size_t), ("text_len", ctypes.c_size_t)]
+
+
+class FaultFields(ctypes.Structure):
+    _fields_ = [(field, ctypes.c_size_t) for field in ("line", "column", "name_len", "words_len")]
+
+
 class Header(NamedTuple):
     """The fields of a header, its counts among them (RFC 1035, 4.1.1)."""
 
@@ -216,6 +227,17 @@ class Record(NamedTuple):
     data_place: int
     section: int = 0
     owner: bytes = b""
+
+
+class Fault(NamedTuple):
+    """A fault of zone text: the number of its refusal, the name of the included text that it stands in, empty of the text
+    itself, the line and the column there, from 1 and in bytes, and what it is, in words."""
+
+    number: int
+    name: str
+    line: int
+    column: int
+    words: str
 
 
 class EdnsOption(NamedTuple):
@@ -263,6 +285,7 @@ CALLS = {
     "data_text": BYTES + PLACE + OUT,
     "walk": BYTES + [ctypes.POINTER(ItemFields)] + PLACE + BYTES + [ctypes.POINTER(Room)],
     "zone": BYTES + BYTES + OUT,
+    "zone_check": BYTES + BYTES + [ctypes.POINTER(IncludedFields)] + PLACE + BYTES * 3 + [ctypes.POINTER(FaultFields)],
     "apply": BYTES + BYTES + BYTES + OUT,
     "zone_open": BYTES + BYTES + HANDLE,
     "zone_update": HANDLE + BYTES,
@@ -422,6 +445,36 @@ def zone(origin: str, zone_text: str) -> str:
     """The zone of a text, as zone text that can be read again; an empty origin is none. Types and data may stand in the
     generic form too (RFC 3597, 5)."""
     return filled(2 * len(zone_text), "zone", origin, zone_text).decode()
+
+
+def zone_check(origin: str, zone_text: str, included: Mapping[str, str] = MappingProxyType({})) -> Optional[Fault]:
+    """The first fault of a zone's text, if it has one; `included` are the texts that it may include, by their names.
+
+    >>> zone_check("example.", "$INCLUDE more\\n", {"more": "www 300 A 192.0.2.1"}) is None
+    True
+    >>> zone_check("example.", "$INCLUDE more\\n", {"more": "\\nwww 300 A 192.0.2"})
+    Fault(number=23, name='more', line=2, column=9, words='invalid data for type A')
+    >>> zone_check("..", "")
+    Traceback (most recent call last):
+    ...
+    fuzsbanel.Refusal: 23: items that are no data, name or TTL
+    """
+    pieces = [(name_.encode(), text_.encode()) for name_, text_ in included.items()]
+    lengths = (IncludedFields * len(pieces))(*((len(name_), len(text_)) for name_, text_ in pieces))
+    found, room, held = FaultFields(), 256, b"".join(name_ + text_ for name_, text_ in pieces)
+    while True:
+        name_, words = ctypes.create_string_buffer(room + 1), ctypes.create_string_buffer(room + 1)
+        try:
+            asked("zone_check", origin, zone_text, lengths, len(pieces), held, name_, room, words, room, ctypes.byref(found))
+            return None
+        except Refusal as refusal:
+            if not found.line:
+                raise
+            number_ = refusal.number
+        if max(found.name_len, found.words_len) <= room:
+            told = name_.raw[:found.name_len].decode(), found.line, found.column, words.raw[:found.words_len].decode()
+            return Fault(number_, *told)
+        room = max(found.name_len, found.words_len)
 
 
 def apply(update: bytes, origin: str, zone_text: str) -> str:

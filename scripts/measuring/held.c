@@ -1,6 +1,6 @@
-/* Carries out the updates on its input again and again in one zone that is held, or answers the queries, so that the cost
- * can be counted: `held TIMES ZONE update` or `held TIMES ZONE answer`. ZONE is the zone text of `example.`; a message stands
- * on a line, in hexadecimal. Prints the sum of the codes, or of the answers' lengths. */
+/* Hands the messages on its input again and again to one zone that is held, so that the cost can be counted:
+ * `held update TIMES ZONE` or `held answer TIMES ZONE`. ZONE is the zone text of `example.`; a message stands on a line, in
+ * hexadecimal. Prints the sum of the codes, or of the lengths of the answers. */
 #include "fuzsbanel.h"
 
 #include <inttypes.h>
@@ -12,6 +12,7 @@
 #define ORIGIN "example."
 #define MESSAGES 4
 #define LONGEST 4096
+#define DATAGRAM 512
 
 static uint8_t messages[MESSAGES][LONGEST];
 static size_t lengths[MESSAGES];
@@ -32,18 +33,20 @@ static size_t read_messages(void)
     return count;
 }
 
-/* The length of the answer to a query by a datagram. */
-static int64_t answer(struct fuzsbanel_zone_handle *zone, const uint8_t *query, size_t len)
+/* Hands one message to the zone, and answers the code, or how long the answer is. */
+static int64_t handed(bool is_update, struct fuzsbanel_zone_handle *zone, size_t i)
 {
-    static uint8_t out[1232];
+    static uint8_t out[LONGEST];
     size_t needed;
-    return fuzsbanel_zone_answer(zone, query, len, sizeof out, false, out, sizeof out, &needed);
+    if (is_update)
+        return fuzsbanel_zone_update(zone, messages[i], lengths[i]);
+    return fuzsbanel_zone_answer(zone, messages[i], lengths[i], DATAGRAM, false, out, sizeof out, &needed);
 }
 
 int main(int argc, char **argv)
 {
     struct fuzsbanel_zone_handle zone = {0};
-    FILE *file = argc == 4 ? fopen(argv[2], "rb") : NULL;
+    FILE *file = argc == 4 ? fopen(argv[3], "rb") : NULL;
     if (!file || fseek(file, 0, SEEK_END) != 0)
         return 2;
     size_t len = (size_t)ftell(file);
@@ -52,13 +55,12 @@ int main(int argc, char **argv)
     if (!text || fread(text, 1, len, file) != len)
         return 2;
     fclose(file);
-    bool answers = strcmp(argv[3], "answer") == 0;
     int64_t sum = fuzsbanel_zone_open((const uint8_t *)ORIGIN, strlen(ORIGIN), text, len, &zone);
     size_t count = read_messages();
-    for (long times = atol(argv[1]); times > 0; times--)
+    bool is_update = strcmp(argv[1], "update") == 0;
+    for (long times = atol(argv[2]); times > 0; times--)
         for (size_t i = 0; i < count; i++)
-            sum += answers ? answer(&zone, messages[i], lengths[i])
-                           : fuzsbanel_zone_update(&zone, messages[i], lengths[i]);
+            sum += handed(is_update, &zone, i);
     printf("%" PRId64 "\n", sum);
     fuzsbanel_zone_close(&zone);
     free(text);

@@ -1,4 +1,4 @@
-"""What an update of a zone that is held costs, and one that is refused, and an answer, of zones of several sizes."""
+"""What an update of a zone that is held costs, one that is refused, and an answer, of zones of several sizes."""
 import os
 
 from counting import instructions
@@ -26,57 +26,53 @@ UPDATES = {
     "NotZone: a name outside": ([update(0, 1, OUTSIDE)], 10),
 }
 
+# What every zone has besides its names: an alias of one of them, a mail exchange, and a zone cut.
+MORE = f"alias 300 CNAME {HERE}\nmail 300 MX 10 {HERE}\nchild 300 NS ns.child\nns.child 300 A 192.0.2.9\n"
 
 
-def query(owner, kind=A):
-    """A query of `example.` for the type of a name, in hexadecimal."""
-    return f"00070100000100000000" + "0000" + f"{len(owner):02x}{owner.encode().hex()}" + "076578616D706C6500" + kind + IN
+def query(owner, kind):
+    """A query for a set of a name below `example.`, in hexadecimal."""
+    labels = "".join(f"{len(label):02x}{label.encode().hex()}" for label in owner.split("."))
+    return "000901000001000000000000" + labels + "076578616D706C6500" + kind + IN
 
 
-# Each: the query, and the length of its answer.
-ANSWERS = {
-    "an address": (query(HERE), 48),
-    "no data: the SOA": (query(HERE, "001C"), 82),
-    "no name: the SOA": (query("none"), 80),
+# Each: the name, and the query, and how many bytes its answer has.
+QUERIES = {
+    "an address": (query(HERE, A), 48),
+    "an alias, and an address": (query("alias", A), 68),
+    "an exchange, and its address": (query("mail", "000F"), 69),
+    "a referral, with its glue": (query("a.child", A), 66),
+    "NoError: no data": (query(HERE, "001C"), 82),
+    "NXDomain: no name": (query("none", A), 80),
 }
 
-# the most instructions of an answer
-ANSWER_MOST = 15_000
 
-
-def write_zones(folder):
-    """The zones of so many names, as files."""
-    paths = [os.path.join(folder, f"zone{size}") for size in SIZES]
-    for size, path in zip(SIZES, paths):
-        with open(path, "w", encoding="utf-8") as file:
-            file.write(zone(size))
-    return paths
-
-
-def costs(program, paths, verb, name, lines, wanted):
-    """The instructions of one of these messages, for each zone, where what is printed is as wanted."""
+def counted(program, what, times, paths, lines, each):
+    """Instructions of one call, of these messages and each zone, whose answers make up so much each time."""
     given = "\n".join(lines).encode()
     counts = []
     for path in paths:
-        count, printed = instructions(program, [str(TIMES), path, verb], given, f"fuzsbanel_zone_{verb}")
-        if int(printed) != wanted * TIMES:
-            raise SystemExit(f"measure: {name}: the sum is {int(printed)} and not {wanted} each time")
-        counts.append(round(count / TIMES / len(lines)))
+        count, printed = instructions(program, [what, str(times), path], given, f"fuzsbanel_zone_{what}")
+        if int(printed) != each * times:
+            raise SystemExit(f"measure: {lines}: the answers make up {int(printed)} and not {each * times}")
+        counts.append(round(count / times / len(lines)))
     return counts
 
 
-def print_row(name, counts, note=""):
-    print("|", " | ".join([name, *(f"{count:,}{note if count > ANSWER_MOST and note else ''}" for count in counts)]), "|", flush=True)
+def row(name, cells):
+    print("|", " | ".join([name, *(f"{cell:,}" for cell in cells)]), "|", flush=True)
 
 
 def measure(program, folder):
     """Prints the instructions of one update of each, and of one answer, of zones of so many names."""
-    paths = write_zones(folder)
-    print("| Update |", " | ".join(f"{size:,} names" for size in SIZES), "|")
+    print("| |", " | ".join(f"{size:,} names" for size in SIZES), "|")
     print("|---" * (1 + len(SIZES)) + "|", flush=True)
+    paths = []
+    for size in SIZES:
+        paths.append(os.path.join(folder, f"zone{size}"))
+        with open(paths[-1], "w", encoding="utf-8") as file:
+            file.write(zone(size) + MORE)
     for name, (lines, codes) in UPDATES.items():
-        print_row(name, costs(program, paths, "update", name, lines, codes))
-    print("\n| Answer |", " | ".join(f"{size:,} names" for size in SIZES), "|")
-    print("|---" * (1 + len(SIZES)) + "|", flush=True)
-    for name, (line, length) in ANSWERS.items():
-        print_row(name, costs(program, paths, "answer", name, [line], length), f" (over {ANSWER_MOST:,})")
+        row(name, counted(program, "update", TIMES, paths, lines, codes))
+    for name, (line, length) in QUERIES.items():
+        row(name, counted(program, "answer", TIMES, paths, [line], length))

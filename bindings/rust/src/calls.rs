@@ -13,6 +13,23 @@ pub struct ZoneHandle {
     pub is_open: bool,
 }
 
+/// How long the name and the text are of a text that may be included.
+#[repr(C)]
+pub struct Included {
+    pub name_len: usize,
+    pub text_len: usize,
+}
+
+/// Where a fault stands, and how long the name of its text and its words are.
+#[repr(C)]
+#[derive(Default)]
+pub struct FaultFound {
+    pub line: usize,
+    pub column: usize,
+    pub name_len: usize,
+    pub words_len: usize,
+}
+
 // A `&[u8]` crosses as a pointer and then a length. Nothing compares these declarations with those of crates/capi.
 extern "C" {
     pub fn fuzsbanel_check(message: *const u8, len: usize) -> i64;
@@ -83,6 +100,21 @@ extern "C" {
         out: *mut u8,
         cap: usize,
         needed: *mut usize,
+    ) -> i64;
+    pub fn fuzsbanel_zone_check(
+        origin: *const u8,
+        origin_len: usize,
+        text: *const u8,
+        text_len: usize,
+        included: *const Included,
+        included_len: usize,
+        bytes: *const u8,
+        bytes_len: usize,
+        name: *mut u8,
+        name_cap: usize,
+        words: *mut u8,
+        words_cap: usize,
+        fault: *mut FaultFound,
     ) -> i64;
     pub fn fuzsbanel_apply(
         update: *const u8,

@@ -91,6 +91,83 @@ pub fn zone(origin: &str, text: &str) -> Result<String, Error> {
     })?)
 }
 
+/// A fault of zone text.
+#[derive(Clone, Debug, PartialEq, Eq)]
+pub struct Fault {
+    /// The refusal.
+    pub error: Error,
+    /// The name of the included text that the fault stands in; empty of the text itself.
+    pub name: String,
+    /// The line, from 1.
+    pub line: usize,
+    /// The column, from 1, in bytes.
+    pub column: usize,
+    /// What the fault is, in words.
+    pub words: String,
+}
+
+/// The first fault of a zone's text, if it has one. An empty `origin` is none; `included` are the texts that may be
+/// included, each after its name.
+///
+/// # Errors
+///
+/// [`Error::BadText`] for an origin that is no name.
+pub fn zone_check(
+    origin: &str,
+    text: &str,
+    included: &[(&str, &str)],
+) -> Result<Option<Fault>, Error> {
+    let lengths: Vec<_> = included
+        .iter()
+        .map(|(name, text)| calls::Included {
+            name_len: name.len(),
+            text_len: text.len(),
+        })
+        .collect();
+    let bytes: String = included
+        .iter()
+        .flat_map(|&(name, text)| [name, text])
+        .collect();
+    let (mut name, mut words) = (Vec::new(), Vec::new());
+    let mut found = calls::FaultFound::default();
+    loop {
+        // SAFETY: as in `cut`; the buffers and what is found are borrowed for the call.
+        let answer = unsafe {
+            calls::fuzsbanel_zone_check(
+                origin.as_ptr(),
+                origin.len(),
+                text.as_ptr(),
+                text.len(),
+                lengths.as_ptr(),
+                lengths.len(),
+                bytes.as_ptr(),
+                bytes.len(),
+                name.as_mut_ptr(),
+                name.len(),
+                words.as_mut_ptr(),
+                words.len(),
+                &mut found,
+            )
+        };
+        if found.line == 0 {
+            return calls::length(answer).map(|_| None);
+        }
+        if found.name_len <= name.len() && found.words_len <= words.len() {
+            name.truncate(found.name_len);
+            words.truncate(found.words_len);
+            return Ok(Some(Fault {
+                error: Error::of(u8::try_from(-answer).unwrap_or(0)),
+                name: calls::text(name)?,
+                line: found.line,
+                column: found.column,
+                words: calls::text(words)?,
+            }));
+        }
+        name = vec![0; found.name_len];
+        words = vec![0; found.words_len];
+    }
+}
+
 /// What a server makes of an update and the zone of a text: a line with its code, and the zone then (RFC 2136, 3).
 ///
 /// # Errors

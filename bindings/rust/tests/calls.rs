@@ -191,6 +191,21 @@ fn a_walk_of_many_pointers_costs_what_the_bytes_cost() {
 }
 
 #[test]
+fn zone_text_is_checked() {
+    let sound = fuzsbanel::zone_check("example.", "$INCLUDE a\n", &[("a", "www 60 A 192.0.2.1\n")]);
+    assert_eq!(sound, Ok(None));
+    let fault = fuzsbanel::zone_check("example.", "$INCLUDE a\n", &[("a", "\nwww 60 A 192.0.2\n")]);
+    let fault = fault.unwrap().unwrap();
+    assert_eq!((fault.error, fault.name.as_str()), (Error::BadText, "a"));
+    assert_eq!((fault.line, fault.column), (2, 8));
+    assert_eq!(fault.words, "invalid data for type A");
+    let fault = fuzsbanel::zone_check("example.", "$INCLUDE b\n", &[]).unwrap().unwrap();
+    assert_eq!((fault.error, fault.line, fault.column), (Error::NoInclude, 1, 10));
+    assert_eq!(fault.words, "no text named b to include");
+    assert_eq!(fuzsbanel::zone_check("..", "", &[]), Err(Error::BadText));
+}
+
+#[test]
 fn zone_text_is_read() {
     let zone = fuzsbanel::zone("example.", "$TTL 60\nwww A 192.0.2.1\n").unwrap();
     assert_eq!(zone, "$ORIGIN example.\nwww.example. 60 IN A 192.0.2.1\n");

@@ -1,10 +1,11 @@
 mod AnswerLemmas
 mod AppliedText
+mod BoxValues
+mod CheckLemmas
+mod HandleLemmas
+mod HandleValues
 mod MessageLemmas
 mod SentLemmas
 mod SoundLemmas
 mod TextLemmas
 mod WalkLemmas
-mod BoxValues
-mod HandleLemmas
-mod HandleValues

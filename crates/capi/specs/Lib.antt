@@ -1,11 +1,12 @@
 pub mod Answer
 pub mod Applied
 pub mod Header
+pub mod Held
 pub mod Message
 pub mod Refusals
 pub mod Update
 pub mod Walk
 pub mod WalkWhole
-pub mod ZoneText
-pub mod Held
+pub mod ZoneCheck
 pub mod ZoneHandle
+pub mod ZoneText

@@ -40,7 +40,7 @@ pub fn number(made: Result<usize, Refusal>) -> i64
 }
 
 /// Puts bytes at the front of a buffer.
-fn put(bytes: &[u8], out: &mut [u8])
+pub fn put(bytes: &[u8], out: &mut [u8])
     requires { length bytes.now ≤ length out.old }
     ensures { out.new ≡ bytes.now ++ drop (length bytes.now) out.old }
 {
@@ -57,7 +57,7 @@ fn length(len: usize) -> i64
 }
 
 /// A refusal as it is answered.
-fn refusal_code(refusal: Refusal) -> i64
+pub fn refusal_code(refusal: Refusal) -> i64
     ensures { result ≡ neg_ℤ (pos refusal.number) }
 {
     -i64::from(refusal.number)

@@ -15,4 +15,5 @@ mod tests;
 mod update;
 mod walk;
 mod zone;
+mod zone_check;
 mod zone_handle;

@@ -8,7 +8,7 @@ ghost use Rattle.parsed_zone.specs.Faults.{zone_number};
 
 use base::{DecodeError, ParseError, ProtoError};
 use parsed_zone::ZoneRefusal;
-use std::alloc::AllocError;
+use std::alloc::{AllocError, AllocFailed};
 
 /// A refusal, as C sees it.
 #[derive(Drop)]
@@ -56,6 +56,14 @@ impl From<AllocError> for Refusal {
     ghost from_gives = { λ _ refusal. refusal.number ≡ 3 };
 
     fn from(_e: AllocError) -> Refusal {
+        Refusal { number: 3 }
+    }
+}
+
+impl<T: Drop> From<AllocFailed<T>> for Refusal {
+    ghost from_gives = { λ _ refusal. refusal.number ≡ 3 };
+
+    fn from(_e: AllocFailed<T>) -> Refusal {
         Refusal { number: 3 }
     }
 }

@@ -4,6 +4,7 @@ mod generic;
 mod held;
 mod long_names;
 mod updates;
+mod zone_check;
 
 use crate::header::{HeaderNumbers, fuzsbanel_header};
 use crate::message::{fuzsbanel_check, fuzsbanel_cut, fuzsbanel_text};

@@ -84,7 +84,7 @@ pub fn zone_under(
 }
 
 /// The origin that a text names, if it isn't empty.
-fn origin_of(alloc: Global, text: &[u8]) -> Result<Option<Name>, Refusal>
+pub fn origin_of(alloc: Global, text: &[u8]) -> Result<Option<Name>, Refusal>
     ensures { Makes (λ origin. origin) (origin_of_text text.now) result }
 {
     if text.is_empty() {

@@ -1,23 +1,24 @@
 -- What an index of data says of the records, and what putting one in does to it.
-use Rattle.std.proofs.Common.{ℕ, zero, suc, Bool, true, false, List, [], ◌∷◌, ◌++◌, ◌≡◌, ◌≢◌, ◌<◌, ◌≤◌, ◌-◌, ◌&&◌}
+use Rattle.std.proofs.Common.{ℕ, zero, suc, Bool, true, false, List, [], ◌∷◌, ◌++◌, ◌≡◌, ◌≢◌, ◌<◌, ◌≤◌, ◌&&◌}
 use Rattle.std.proofs.Common.{nat_eq}
 use Rattle.std.proofs.Common.{map, ◌||◌, ◌⊎◌, inl, inr, refl, sym, ap, subst, ◌∙◌, length, get_or, set, arith, cond}
-use Rattle.std.proofs.Common.{if◌then◌else◌, length-append}
+use Rattle.std.proofs.Common.{take, drop, if◌then◌else◌, length-append}
 use Rattle.std.specs.Prelude.{Option, Some, None, Vec, is_some}
 use Rattle.std.specs.BTreeMap.{BTreeMap, UpdatesBy}
 use Rattle.std.specs.Cmp.{eq_by_cmp_equiv, second_so}
 use Rattle.std.specs.Cmp.Lexicographic.{slice_cmp, nat_list_cmp_total, bytes_decides}
 use Rattle.std.specs.Int.{to_be_bytes, w16, w32}
-use Rattle.std.specs.List.{list_any}
+use Rattle.std.specs.List.{list_any, slice_get}
 use Rattle.std.specs.Map.{KeepsOthers, AreApart}
 use Rattle.std.specs.Ordering.{nat_cmp, is_eq}
 use Rattle.std.specs.declared.alloc.Global.{Global}
-use Rattle.std.proofs.lemmas.Bool.{cases_lt, cases_Bool, cond-true, cond-false, or_parts}
-use Rattle.std.proofs.lemmas.List.{append-nil, get_or_append_left, get_or-append_right, get_or-set_same}
+use Rattle.std.proofs.lemmas.Bool.{cases_lt, cases_Bool, false_from_ne_true, or_parts, true≢false}
+use Rattle.std.proofs.lemmas.List.{get_or_append_left, get_or-set_same}
 use Rattle.std.proofs.lemmas.List.{get_or-set_other, length-map, length-set}
 use Rattle.std.proofs.lemmas.Map.Text.{is_eq-slice_cmp}
-use Rattle.std.proofs.lemmas.Option.{same_Some}
-use Rattle.std.proofs.Math.Bool.{or-false, or-true}
+use Rattle.std.proofs.lemmas.Option.{get_or_from_slice_get, same_Some, slice_get-get_or}
+use Rattle.std.proofs.lemmas.List.Folds.{list_any-append}
+use Rattle.std.proofs.Math.Bool.{or-false}
 use Rattle.base.specs.names.Labels.{wire_of}
 use Rattle.base.specs.RecordType.{same_type}
 use Rattle.base.proofs.writing.LawLemmas.{none_is_not}
@@ -33,12 +34,13 @@ use Rattle.base_data.proofs.NameWords.{name_same}
 use Rattle.base_data.proofs.SOALemmas.{soa_same}
 use Rattle.base_data.proofs.SRVLemmas.{srv_same}
 use Rattle.rr.specs.DataIndex.{IsCurrent, IsFirstAt, IsIndexOf, IsOnlyAt, IsPlaceFor, place_at}
-use Rattle.rr.specs.SetChanges.{entered, first_of, has_data_of, has_entry, joined, replaced}
+use Rattle.rr.specs.SetChanges.{entered, first_of, has_data_of, has_entry, joined}
 use Rattle.rr.specs.declared.record.Record.{Record}
 use Rattle.rr.specs.declared.rr_set.indexed_records.Index.{Index}
 use Rattle.rr.specs.declared.rr_set.indexed_records.Index.TheVariants.{Missing, Made}
 use Rattle.rr.specs.RecordSet.{same_entry}
-use Rattle.rr.proofs.SetSteps.{other_data, replaced_none}
+use Rattle.rr.proofs.Around.{cut, first_around, joined_after, joined_around}
+use Rattle.rr.proofs.SetSteps.{other_data}
 
 -- equal data has one key
 pub one_key : (a b : RData) → same_data a b ≡ true → canonical_data a ≡ canonical_data b
@@ -87,104 +89,73 @@ cases_eq i p = elim (cases_lt i p) [
   ]
 ]
 
-sub_self : (n : ℕ) → n - n ≡ 0
-sub_self n = omega arith
-
--- where a record of equal data stands, the index has its place
-pub equal_at : (find : List ℕ → Option ℕ) (rs : List (Record RData)) (rdata : RData) → IsIndexOf find rs
-    → (i : ℕ) (d : Record RData) → i < length rs
-    → same_data (get_or rs i d).rdata rdata ≡ true → find (canonical_data rdata) ≡ Some i
-equal_at find rs rdata h i d inside same = ap find (sym (one_key (get_or rs i d).rdata rdata same)) ∙ h.at i d inside
-
--- where the index has another place or none, the data is other
-pub other_at : (find : List ℕ → Option ℕ) (rs : List (Record RData)) (rdata : RData) → IsIndexOf find rs
-    → (i : ℕ) (d : Record RData) → i < length rs
-    → (find (canonical_data rdata) ≢ Some i) → same_data (get_or rs i d).rdata rdata ≡ false
-other_at find rs rdata h i d inside apart = elim (cases_Bool (same_data (get_or rs i d).rdata rdata)) [
-  | inl same ↦ absurd (apart (equal_at find rs rdata h i d inside same))
-  | inr differ ↦ differ
-]
-
 none_any : (rdata : RData) (rs : List (Record RData))
     → ((i : ℕ) (d : Record RData) → i < length rs → same_data (get_or rs i d).rdata rdata ≡ false)
     → list_any (λ (x : Record RData). same_data x.rdata rdata) rs ≡ false
 none_any rdata [] h = refl
 none_any rdata (x ∷ xs) h = λ i. h 0 x (omega arith) i || none_any rdata xs (λ j d inside. h (suc j) d (omega arith)) i
 
--- the index has no place for the data
-pub absent_none : (find : List ℕ → Option ℕ) (rs : List (Record RData)) (rdata : RData) → IsIndexOf find rs
-    → find (canonical_data rdata) ≡ None
-    → list_any (λ (x : Record RData). same_data x.rdata rdata) rs ≡ false
-absent_none find rs rdata h none = none_any rdata rs
-    (λ i d inside. other_at find rs rdata h i d inside (λ is. none_is_not i (sym none ∙ is)))
+-- where no record has the data none is equal
+pub no_entry : (r : Record RData) (rs : List (Record RData)) → list_any (has_data_of r) rs ≡ false
+    → has_entry r rs ≡ false
+no_entry r [] h = refl
+no_entry r (x ∷ xs) h =
+    let parts : (has_data_of r x ≡ false) × (list_any (has_data_of r) xs ≡ false) = or_parts (has_data_of r x) _ h in
+    let first : (same_entry x r && nat_eq x.ttl r.ttl) ≡ false = sym (other_data x r parts.0) in
+    λ i. first i || no_entry r xs parts.1 i
 
--- the place that it has is that of no record
-pub absent_past : (find : List ℕ → Option ℕ) (rs : List (Record RData)) (rdata : RData) (p : ℕ) → IsIndexOf find rs
-    → find (canonical_data rdata) ≡ Some p → (p < length rs → ⊥)
-    → list_any (λ (x : Record RData). same_data x.rdata rdata) rs ≡ false
-absent_past find rs rdata p h at past = none_any rdata rs
-    (λ i d inside. other_at find rs rdata h i d inside
-    (λ is. past (omega (arith, same_Some i p (sym is ∙ at), inside))))
-
--- the place that it has is that of other data
-pub absent_other : (find : List ℕ → Option ℕ) (rs : List (Record RData)) (rdata : RData) (p : ℕ) (e : Record RData)
-    → IsIndexOf find rs → find (canonical_data rdata) ≡ Some p
-    → e ≡ get_or rs p e → same_data e.rdata rdata ≡ false
-    → list_any (λ (x : Record RData). same_data x.rdata rdata) rs ≡ false
-absent_other find rs rdata p e h at is other = none_any rdata rs all where
-  all : (i : ℕ) (d : Record RData) → i < length rs → same_data (get_or rs i d).rdata rdata ≡ false
-  all i d inside = elim (cases_Bool (same_data (get_or rs i d).rdata rdata)) [
-    | inl same ↦
-        let place : i ≡ p = same_Some i p (sym (equal_at find rs rdata h i d inside same) ∙ at) in
-        let one : get_or rs i d ≡ get_or rs p e = get_or_any rs i p d e place inside in
-        ap (λ (x : Record RData). same_data x.rdata rdata) (one ∙ sym is) ∙ other
-    | inr differ ↦ differ
-  ]
-
--- the place that it has is that of equal data
-pub only_at : (find : List ℕ → Option ℕ) (rs : List (Record RData)) (rdata : RData) (p : ℕ) (e : Record RData)
-    → IsIndexOf find rs → find (canonical_data rdata) ≡ Some p
-    → p < length rs → e ≡ get_or rs p e → same_data e.rdata rdata ≡ true → IsOnlyAt rdata rs p
-only_at find rs rdata p e h at inside is same = record {
-  inside = inside;
-  same = λ d. ap (λ (x : Record RData). same_data x.rdata rdata) (get_or_any rs p p d e refl inside ∙ sym is) ∙ same;
-  others = λ i d within other. other_at find rs rdata h i d within (λ here. other (same_Some i p (sym here ∙ at)));
-}
-
-replaced_at : (r : Record RData) (rs : List (Record RData)) (p : ℕ) → p < length rs
-    → ((d : Record RData) → same_data (get_or rs p d).rdata r.rdata ≡ true)
+-- those before the one of this data and those after it have other data
+sides : (r : Record RData) (rs : List (Record RData)) (p : ℕ) → p < length rs
     → ((i : ℕ) (d : Record RData) → i < length rs → i ≢ p → same_data (get_or rs i d).rdata r.rdata ≡ false)
-    → replaced r rs ≡ set rs p r
-replaced_at r [] p inside same others = absurd (omega arith)
-replaced_at r (x ∷ xs) zero inside same others =
-    let rest : replaced r xs ≡ xs = replaced_none r xs
-    (none_any r.rdata xs (λ j d within. others (suc j) d (omega arith) (λ e. absurd (omega (arith, e))))) in
-    λ i. cond-true (has_data_of r x) r x (same x) i ∷ rest i
-replaced_at r (x ∷ xs) (suc p) inside same others =
-    let first : (if has_data_of r x then r else x) ≡ x =
-    cond-false (has_data_of r x) r x (others 0 x (omega arith) (λ e. absurd (omega (arith, e)))) in
-    let rest : replaced r xs ≡ set xs p r = replaced_at r xs p (omega arith) same
+    → (list_any (has_data_of r) (take p rs) ≡ false) × (list_any (has_data_of r) (drop (suc p) rs) ≡ false)
+sides r [] p inside others = absurd (omega arith)
+sides r (x ∷ xs) zero inside others = (
+  refl,
+  none_any r.rdata xs
+      (λ j d within. others (suc j) d (omega arith) (λ e. absurd (omega (arith, e)))),
+)
+sides r (x ∷ xs) (suc p) inside others =
+    let rest = sides r xs p (omega arith)
     (λ j d within other. others (suc j) d (omega arith) (λ e. other (omega (arith, e)))) in
-    λ i. first i ∷ rest i
+    (λ i. others 0 x (omega arith) (λ e. absurd (omega (arith, e))) i || rest.0 i, rest.1)
 
-any_here : (r : Record RData) (rs : List (Record RData)) (p : ℕ) → p < length rs
-    → ((d : Record RData) → same_data (get_or rs p d).rdata r.rdata ≡ true)
-    → list_any (has_data_of r) rs ≡ true
-any_here r [] p inside same = absurd (omega arith)
-any_here r (x ∷ xs) zero inside same = ap (λ b. b || list_any (has_data_of r) xs) (same x)
-any_here r (x ∷ xs) (suc p) inside same =
-    ap (λ b. has_data_of r x || b) (any_here r xs p (omega arith) same) ∙ or-true (has_data_of r x)
+module _ (r : Record RData) (rs : List (Record RData)) (p : ℕ) (h : IsOnlyAt r.rdata rs p) where
+  abbrev known : Record RData
+  known = get_or rs p r
 
--- r joined to records of which one alone has its data stands in its place
-pub joined_at : (r : Record RData) (rs : List (Record RData)) (p : ℕ) → IsOnlyAt r.rdata rs p → set rs p r ≡ joined r rs
-joined_at r rs p h =
-    sym (ap (λ b. replaced r rs ++ (if b then [] else r ∷ [])) (any_here r rs p h.inside h.same)
-    ∙ append-nil (replaced r rs) ∙ replaced_at r rs p h.inside h.same h.others)
+  around : (rs ≡ take p rs ++ known ∷ drop (suc p) rs) × (set rs p r ≡ take p rs ++ r ∷ drop (suc p) rs)
+  around = cut rs p known r (slice_get-get_or rs p r h.inside)
 
--- joined to records of which none has its data it stands after them
-pub joined_after : (r : Record RData) (rs : List (Record RData)) → list_any (has_data_of r) rs ≡ false
-    → rs ++ r ∷ [] ≡ joined r rs
-joined_after r rs none = sym (λ i. replaced_none r rs none i ++ (if none i then [] else r ∷ []))
+  none : (list_any (has_data_of r) (take p rs) ≡ false) × (list_any (has_data_of r) (drop (suc p) rs) ≡ false)
+  none = sides r rs p h.inside h.others
+
+  -- r joined to the records stands in the place of the one that has its data
+  pub joined_at : set rs p r ≡ joined r rs
+  joined_at = around.1 ∙ sym (joined_around r known (take p rs) (drop (suc p) rs) none (h.same r))
+      ∙ ap (joined r) (sym around.0)
+
+  -- that one is the first of its data, and r is then
+  pub first_only : IsFirstAt r.rdata rs p
+  first_only = slice_get-get_or rs p r h.inside
+      ∙ sym (ap (first_of r.rdata) around.0 ∙ first_around r known (take p rs) (drop (suc p) rs) none.0 (h.same r))
+
+  pub first_set : IsFirstAt r.rdata (set rs p r) p
+  first_set = slice_get-get_or (set rs p r) p r (omega (arith, length-set rs p r, h.inside))
+      ∙ ap Some (get_or-set_same rs p r r h.inside) ∙ sym (ap (first_of r.rdata) around.1
+      ∙ first_around r r (take p rs) (drop (suc p) rs) none.0 (data_laws.refl r.rdata))
+
+  -- whether an equal record of the same TTL is there, by that one
+  pub entry_at : (x : Record RData) → x ≡ get_or rs p x → has_entry r rs ≡ (same_entry x r && nat_eq x.ttl r.ttl)
+  entry_at x is = ap (has_entry r) around.0
+      ∙ list_any-append (λ (y : Record RData). same_entry y r && nat_eq y.ttl r.ttl) (take p rs)
+      (known ∷ drop (suc p) rs)
+      ∙ (λ i. no_entry r (take p rs) none.0 i || ((same_entry known r && nat_eq known.ttl r.ttl)
+      || no_entry r (drop (suc p) rs) none.1 i)) ∙ or-false (same_entry known r && nat_eq known.ttl r.ttl)
+      ∙ ap (λ (y : Record RData). same_entry y r && nat_eq y.ttl r.ttl) (get_or_any rs p p r x refl h.inside ∙ sym is)
+
+slice_get_end : (rs : List (Record RData)) (r : Record RData) → slice_get (rs ++ r ∷ []) (length rs) ≡ Some r
+slice_get_end [] r = refl
+slice_get_end (x ∷ xs) r = slice_get_end xs r
 
 -- a key more in the index
 pub index_wider : (find after : List ℕ → Option ℕ) (rs : List (Record RData)) (key : List ℕ) → IsIndexOf find rs
@@ -205,8 +176,7 @@ index_push find after rs r h free others here = record { at = at } where
   wide = index_wider find after rs (canonical_data r.rdata) h free others
 
   at_end : (d : Record RData) → get_or (rs ++ r ∷ []) (length rs) d ≡ r
-  at_end d = get_or-append_right rs (r ∷ []) (length rs) (length rs) d refl (omega arith)
-      ∙ ap (λ (k : ℕ). get_or (r ∷ []) k d) (sub_self (length rs))
+  at_end d = get_or_from_slice_get (rs ++ r ∷ []) (length rs) r d (slice_get_end rs r)
 
   at : (i : ℕ) (d : Record RData) → i < length (rs ++ r ∷ [])
       → after (canonical_data (get_or (rs ++ r ∷ []) i d).rdata) ≡ Some i
@@ -267,54 +237,38 @@ pushed m n xs zs r ks p h key free here others len is =
 -- what a look-up finds
 module _ (m : BTreeMap (Vec ℕ Global) ℕ) (rs : List (Record RData)) (ks : List ℕ) (rdata : RData)
     (h : IsIndexOf (place_at m) rs) (key : ks ≡ canonical_data rdata) where
-  pub none_at : None ≡ place_at m ks → list_any (λ (x : Record RData). same_data x.rdata rdata) rs ≡ false
-  none_at none = absent_none (place_at m) rs rdata h (ap (place_at m) (sym key) ∙ sym none)
+  -- where a record of equal data stands, the index has its place
+  equal_at : (i : ℕ) (d : Record RData) → i < length rs → same_data (get_or rs i d).rdata rdata ≡ true
+      → place_at m ks ≡ Some i
+  equal_at i d inside same = ap (place_at m) (key ∙ sym (one_key (get_or rs i d).rdata rdata same)) ∙ h.at i d inside
 
+  other_at : (i : ℕ) (d : Record RData) → i < length rs → (place_at m ks ≢ Some i)
+      → same_data (get_or rs i d).rdata rdata ≡ false
+  other_at i d inside apart = false_from_ne_true _ (λ same. apart (equal_at i d inside same))
+
+  pub none_at : None ≡ place_at m ks → list_any (λ (x : Record RData). same_data x.rdata rdata) rs ≡ false
+  none_at none = none_any rdata rs (λ i d inside. other_at i d inside (λ is. none_is_not i (none ∙ is)))
+
+  -- the place is that of no record, of other data, or of equal data
   pub past_at : (p : ℕ) → Some p ≡ place_at m ks → length rs ≤ p
       → list_any (λ (x : Record RData). same_data x.rdata rdata) rs ≡ false
-  past_at p at past = absent_past (place_at m) rs rdata p h (ap (place_at m) (sym key) ∙ sym at)
-      (λ below. omega (arith, past, below))
+  past_at p at past = none_any rdata rs (λ i d inside. other_at i d inside
+      (λ is. absurd (omega (arith, past, same_Some p i (at ∙ is), inside))))
 
   pub other_there : (p : ℕ) (e : Record RData) → Some p ≡ place_at m ks → e ≡ get_or rs p e
       → same_data e.rdata rdata ≡ false → list_any (λ (x : Record RData). same_data x.rdata rdata) rs ≡ false
-  other_there p e at is other = absent_other (place_at m) rs rdata p e h (ap (place_at m) (sym key) ∙ sym at) is other
+  other_there p e at is other = none_any rdata rs (λ i d inside. false_from_ne_true _ (λ same.
+      let place : i ≡ p = sym (same_Some p i (at ∙ equal_at i d inside same)) in
+      true≢false (sym same ∙ ap (λ (x : Record RData). same_data x.rdata rdata)
+      (get_or_any rs i p d e place inside ∙ sym is) ∙ other)))
 
   pub found_at : (p : ℕ) (e : Record RData) → Some p ≡ place_at m ks → p < length rs → e ≡ get_or rs p e
       → same_data e.rdata rdata ≡ true → IsOnlyAt rdata rs p
-  found_at p e at inside is same = only_at (place_at m) rs rdata p e h
-      (ap (place_at m) (sym key) ∙ sym at) inside is same
-
--- whether an equal record of the same TTL is there, by the record of equal data
-no_entry : (r : Record RData) (rs : List (Record RData)) → list_any (has_data_of r) rs ≡ false → has_entry r rs ≡ false
-no_entry r [] h = refl
-no_entry r (x ∷ xs) h =
-    let parts : (has_data_of r x ≡ false) × (list_any (has_data_of r) xs ≡ false) = or_parts (has_data_of r x) _ h in
-    let first : (same_entry x r && nat_eq x.ttl r.ttl) ≡ false = sym (other_data x r parts.0) in
-    λ i. first i || no_entry r xs parts.1 i
-
-entry_by : (r : Record RData) (rs : List (Record RData)) (p : ℕ) → p < length rs
-    → ((i : ℕ) (d : Record RData) → i < length rs → i ≢ p → same_data (get_or rs i d).rdata r.rdata ≡ false)
-    → (d : Record RData) → has_entry r rs ≡ (same_entry (get_or rs p d) r && nat_eq (get_or rs p d).ttl r.ttl)
-entry_by r [] p inside others d = absurd (omega arith)
-entry_by r (x ∷ xs) zero inside others d =
-    let rest : has_entry r xs ≡ false = no_entry r xs
-    (none_any r.rdata xs (λ j e within. others (suc j) e (omega arith) (λ q. absurd (omega (arith, q))))) in
-    ap (λ b. (same_entry x r && nat_eq x.ttl r.ttl) || b) rest ∙ or-false (same_entry x r && nat_eq x.ttl r.ttl)
-entry_by r (x ∷ xs) (suc p) inside others d =
-    let first : (same_entry x r && nat_eq x.ttl r.ttl) ≡ false =
-    sym (other_data x r (others 0 x (omega arith) (λ q. absurd (omega (arith, q))))) in
-    ap (λ b. b || has_entry r xs) first ∙ entry_by r xs p (omega arith)
-    (λ j e within other. others (suc j) e (omega arith) (λ q. other (omega (arith, q)))) d
-
-pub entry_at : (r : Record RData) (rs : List (Record RData)) (p : ℕ) (x : Record RData) → IsOnlyAt r.rdata rs p
-    → x ≡ get_or rs p x
-    → has_entry r rs ≡ (same_entry x r && nat_eq x.ttl r.ttl)
-entry_at r rs p x h is = entry_by r rs p h.inside h.others x
-    ∙ sym (ap (λ (y : Record RData). same_entry y r && nat_eq y.ttl r.ttl) is)
-
-pub entry_none : (r : Record RData) (rs : List (Record RData)) → list_any (has_data_of r) rs ≡ false
-    → has_entry r rs ≡ false
-entry_none = no_entry
+  found_at p e at inside is same = record {
+    inside = inside;
+    same = λ d. ap (λ (x : Record RData). same_data x.rdata rdata) (get_or_any rs p p d e refl inside ∙ sym is) ∙ same;
+    others = λ i d within other. other_at i d within (λ here. other (sym (same_Some p i (at ∙ here))));
+  }
 
 -- records among which one alone has the data of r, and those with r among them
 entries : (r : Record RData) (rs : List (Record RData)) (b : Bool) → has_entry r rs ≡ b
@@ -324,59 +278,29 @@ entries r rs b h = ap (λ (c : Bool). if c then (false, rs) else (true, joined r
 pub entered_not : (r : Record RData) (rs : List (Record RData)) (p : ℕ) (x : Record RData) → IsOnlyAt r.rdata rs p
     → x ≡ get_or rs p x
     → (same_entry x r && nat_eq x.ttl r.ttl) ≡ true → ◌≡◌ {A = Bool × List (Record RData)} (false, rs) (entered r rs)
-entered_not r rs p x h is same = sym (entries r rs true (entry_at r rs p x h is ∙ same))
+entered_not r rs p x h is same = sym (entries r rs true (entry_at r rs p h x is ∙ same))
 
 pub entered_at : (r : Record RData) (rs : List (Record RData)) (p : ℕ) (x : Record RData) → IsOnlyAt r.rdata rs p
     → x ≡ get_or rs p x
     → (same_entry x r && nat_eq x.ttl r.ttl) ≡ false
     → ◌≡◌ {A = Bool × List (Record RData)} (true, set rs p r) (entered r rs)
 entered_at r rs p x h is other = (λ i. (true, joined_at r rs p h i))
-    ∙ sym (entries r rs false (entry_at r rs p x h is ∙ other))
+    ∙ sym (entries r rs false (entry_at r rs p h x is ∙ other))
 
 pub entered_after : (r : Record RData) (rs : List (Record RData)) → list_any (has_data_of r) rs ≡ false
     → ◌≡◌ {A = Bool × List (Record RData)} (true, rs ++ r ∷ []) (entered r rs)
-entered_after r rs none = (λ i. (true, joined_after r rs none i)) ∙ sym (entries r rs false (entry_none r rs none))
+entered_after r rs none = (λ i. (true, joined_after r rs none i)) ∙ sym (entries r rs false (no_entry r rs none))
 
--- the first record of equal data is the only one
-first_by : (rdata : RData) (rs : List (Record RData)) (p : ℕ) → p < length rs
-    → ((d : Record RData) → same_data (get_or rs p d).rdata rdata ≡ true)
-    → ((i : ℕ) (d : Record RData) → i < length rs → i ≢ p → same_data (get_or rs i d).rdata rdata ≡ false)
-    → IsFirstAt rdata rs p
-first_by rdata [] p inside same others = absurd (omega arith)
-first_by rdata (x ∷ xs) zero inside same others =
-    sym (cond-true (same_data x.rdata rdata) (Some x) (first_of rdata xs) (same x))
-first_by rdata (x ∷ xs) (suc p) inside same others =
-    first_by rdata xs p (omega arith) same (λ j d within other. others (suc j) d (omega arith)
-    (λ q. other (omega (arith, q))))
-    ∙ sym (cond-false (same_data x.rdata rdata) (Some x) (first_of rdata xs)
-    (others 0 x (omega arith) (λ q. absurd (omega (arith, q)))))
-
-pub first_only : (r : Record RData) (rs : List (Record RData)) (p : ℕ) → IsOnlyAt r.rdata rs p → IsFirstAt r.rdata rs p
-first_only r rs p h = first_by r.rdata rs p h.inside h.same h.others
-
--- also once r stands there
-pub first_set : (r : Record RData) (rs : List (Record RData)) (p : ℕ) → IsOnlyAt r.rdata rs p
-    → IsFirstAt r.rdata (set rs p r) p
-first_set r rs p h =
-    first_by r.rdata (set rs p r) p (omega (arith, length-set rs p r, h.inside))
-    (λ d. ap (λ (x : Record RData). same_data x.rdata r.rdata) (get_or-set_same rs p r d h.inside)
-    ∙ data_laws.refl r.rdata)
-    (λ i d within other. ap (λ (x : Record RData). same_data x.rdata r.rdata) (get_or-set_other rs p i r d other)
-    ∙ h.others i d (omega (arith, length-set rs p r, within)) other)
-
--- or after records of other data
+-- the first record of its data, after records of other data
 pub first_after : (r : Record RData) (rs : List (Record RData)) → list_any (has_data_of r) rs ≡ false
     → IsFirstAt r.rdata (rs ++ r ∷ []) (length rs)
-first_after r [] none = sym (cond-true (same_data r.rdata r.rdata) (Some r) None (data_laws.refl r.rdata))
-first_after r (x ∷ xs) none =
-    let parts : (has_data_of r x ≡ false) × (list_any (has_data_of r) xs ≡ false) = or_parts (has_data_of r x) _ none in
-    first_after r xs parts.1 ∙ sym (cond-false (same_data x.rdata r.rdata) (Some x)
-    (first_of r.rdata (xs ++ r ∷ [])) parts.0)
+first_after r rs none = slice_get_end rs r ∙ sym (first_around r r rs [] none (data_laws.refl r.rdata))
 
 -- the index has the place of the one that has the data
 pub place_is : (find : List ℕ → Option ℕ) (rs : List (Record RData)) (rdata : RData) (p : ℕ) (d : Record RData)
     → IsIndexOf find rs → IsOnlyAt rdata rs p → find (canonical_data rdata) ≡ Some p
-place_is find rs rdata p d h only = equal_at find rs rdata h p d only.inside (only.same d)
+place_is find rs rdata p d h only = ap find (sym (one_key (get_or rs p d).rdata rdata (only.same d)))
+    ∙ h.at p d only.inside
 
 pub none_of : (o : Option ℕ) → is_some o ≡ false → o ≡ None
 none_of None h = refl

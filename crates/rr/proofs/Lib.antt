@@ -1,4 +1,5 @@
 pub mod AddsRecord
+pub mod Around
 pub mod EqualRecords
 pub mod IndexLemmas
 pub mod OrderRecords

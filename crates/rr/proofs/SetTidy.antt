@@ -4,6 +4,7 @@ use Rattle.std.proofs.Common.{subst, ◌∙◌, length, filter, arith, if◌then
 use Rattle.std.specs.List.{AllByRecursion, IsDistinct, list_any}
 use Rattle.std.proofs.lemmas.Bool.{or_parts}
 use Rattle.std.proofs.lemmas.List.{append-nil}
+use Rattle.std.proofs.lemmas.List.Filters.{length-filter_both}
 use Rattle.base.specs.names.Labels.{NameValue}
 use Rattle.base.specs.declared.record_type.RecordType.{RecordType}
 use Rattle.base.specs.declared.record_type.RecordType.TheVariants as types
@@ -67,7 +68,7 @@ distinct_of : (x : Record RData) (xs : List (Record RData)) → Far x xs → Dis
 unfolding IsDistinct
 distinct_of x xs far d = (far, d)
 
-distinct_none : Distinct []
+pub distinct_none : Distinct []
 unfolding IsDistinct
 distinct_none = tt
 
@@ -87,7 +88,8 @@ distinct_pushed r (x ∷ xs) h d =
     distinct_of x (xs ++ r ∷ []) (all_append (λ q. same_data x.rdata q.rdata ≡ false) xs (r ∷ []) parts.0 (none.0, tt))
     (distinct_pushed r xs none.1 parts.1)
 
-distinct_put : (r : Record RData) (xs : List (Record RData)) (b : Bool) → list_any (has_data_of r) xs ≡ b → Distinct xs
+pub distinct_put : (r : Record RData) (xs : List (Record RData)) (b : Bool) → list_any (has_data_of r) xs ≡ b
+    → Distinct xs
     → Distinct (replaced r xs ++ (if b then [] else r ∷ []))
 distinct_put r xs true h d = subst Distinct (sym (append-nil (replaced r xs))) (distinct_replaced r xs d)
 distinct_put r xs false h d = subst (λ ys. Distinct (ys ++ r ∷ [])) (sym (replaced_none r xs h))
@@ -137,7 +139,7 @@ distinct_if : (b : Bool) (xs ys : List (Record RData)) → Distinct xs → Disti
 distinct_if true xs ys h k = h
 distinct_if false xs ys h k = k
 
-distinct_left : (test : Record RData → Bool) (xs : List (Record RData)) → Distinct xs → Distinct (filter test xs)
+pub distinct_left : (test : Record RData → Bool) (xs : List (Record RData)) → Distinct xs → Distinct (filter test xs)
 distinct_left test [] d = distinct_none
 distinct_left test (x ∷ xs) d =
     let parts : Far x xs × Distinct xs = parts_of x xs d in
@@ -145,14 +147,8 @@ distinct_left test (x ∷ xs) d =
     distinct_if (test x) (x ∷ filter test xs) (filter test xs)
     (distinct_of x (filter test xs) (all_left (λ q. same_data x.rdata q.rdata ≡ false) test xs parts.0) left) left
 
-fewer_if : (n : ℕ) (x : Record RData) (ys : List (Record RData)) (b : Bool) → length ys ≤ n
-    → length (cond b (x ∷ ys) ys) ≤ n + 1
-fewer_if n x ys true h = omega arith
-fewer_if n x ys false h = omega arith
-
 fewer_left : (test : Record RData → Bool) (xs : List (Record RData)) → length (filter test xs) ≤ length xs
-fewer_left test [] = omega arith
-fewer_left test (x ∷ xs) = omega (arith, fewer_if (length xs) x (filter test xs) (test x) (fewer_left test xs))
+fewer_left test xs = omega (arith, length-filter_both test (λ x. not (test x)) (λ x. refl) xs)
 
 pub remove_keeps_tidy : (set : SetValue) (r : Record RData) (serial : ℕ) → IsTidy set → IsTidy (remove set r serial).1
 remove_keeps_tidy set r serial tidy =

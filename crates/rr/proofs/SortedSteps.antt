@@ -9,7 +9,7 @@ use Rattle.rr.specs.SortedData.{IsInOrder, IsSortedDataOf}
 use Rattle.rr.specs.declared.record.Record.{Record}
 use Rattle.base_data.specs.contracts.rdata.RDataEq.TheImpl.Laws.{laws-law as data_laws}
 use Rattle.std.proofs.Common.{ap, arith, get_or, refl, subst, take, sym, ⊎_elim, ◌∙◌}
-use Rattle.std.proofs.lemmas.Bool.{cases_lt}
+use Rattle.std.proofs.lemmas.Bool.{cases_lt, false_from_ne_true}
 use Rattle.std.proofs.lemmas.List.{take_more}
 use Rattle.std.proofs.lemmas.List.Elements.{All-push}
 use Rattle.std.proofs.lemmas.List.Folds.{list_any-append, list_any_at, list_any_none}
@@ -59,10 +59,6 @@ sorted_gathered ds new entries h moved up = record {
   whole = λ p. sym (list_any-IsPermutation (λ (d : Bor RData). p d.now) ds new moved) ∙ h.whole p;
 }
 
-is_false : (b : Bool) → (b ≡ true → ⊥) → b ≡ false
-is_false true h = absurd (h refl)
-is_false false h = refl
-
 one_of : {X : Type 0} (xs : List X) (i : ℕ) → i < length xs → X
 one_of [] i h = absurd (omega (arith, h))
 one_of (x ∷ xs) i h = x
@@ -87,7 +83,8 @@ module _ (ds : List (Bor RData)) (x : RData) (h : IsInOrder ds) (fits : KeptData
   pub not_found : (i : ℕ) → IsPartitionPoint (λ (d : Bor RData). data_cmp d.now x ≡ Less)
       (λ (d : Bor RData). data_cmp d.now x ≡ Greater) ds i
       → list_any (λ (e : Bor RData). same_data x e.now) ds ≡ false
-  not_found i parts = list_any_none (λ (y : Bor RData). same_data x y.now) ds (λ k d below. is_false _ (λ same.
+  not_found i parts = list_any_none (λ (y : Bor RData). same_data x y.now) ds
+      (λ k d below. false_from_ne_true _ (λ same.
       ⊎_elim (λ low. less_tied (sym (parts.0 k d (omega arith) low) ∙ tied k d below same))
       (λ high. greater_tied (sym (parts.1 k d high below) ∙ tied k d below same)) (cases_lt k i)))
 

@@ -8,6 +8,7 @@ use Rattle.rr.specs.SortedData.{IsSortedDataOf}
 use Rattle.rr.specs.declared.record.Record.{Record}
 use Rattle.std.proofs.Common.{ap, arith, get_or, refl, sym, ◌∙◌}
 use Rattle.std.proofs.lemmas.Bool.{cond-false, or_parts}
+use Rattle.std.proofs.lemmas.List.Filters.{length-filter_both}
 use Rattle.std.proofs.Math.Bool.{or-false}
 use Rattle.std.specs.Borrow.{Bor}
 use Rattle.std.specs.List.{filter, list_any}
@@ -38,14 +39,12 @@ without_none rs (x ∷ xs) h =
     let parts = or_parts (has_data_of_one rs x) (list_any (has_data_of_one rs) xs) h in
     ap (λ b. cond (not b) (x ∷ without rs xs) (without rs xs)) parts.0 ∙ ap (λ ys. x ∷ ys) (without_none rs xs parts.1)
 
-fewer_at : (x : Record RData) (xs ys : List (Record RData)) (b : Bool) → length ys ≤ length xs
-    → length (cond b (x ∷ ys) ys) ≤ length (x ∷ xs)
-fewer_at x xs ys true h = omega (arith, h)
-fewer_at x xs ys false h = omega (arith, h)
-
 fewer : (rs xs : List (Record RData)) → length (without rs xs) ≤ length xs
-fewer rs [] = omega arith
-fewer rs (x ∷ xs) = fewer_at x xs (without rs xs) (not (has_data_of_one rs x)) (fewer rs xs)
+fewer rs xs = omega (
+  arith,
+  length-filter_both (λ x. not (has_data_of_one rs x))
+      (λ x. not (not (has_data_of_one rs x))) (λ x. refl) xs,
+)
 
 -- where as many are left, none has such data
 none_at : (rs : List (Record RData)) (x : Record RData) (xs : List (Record RData)) (b : Bool)

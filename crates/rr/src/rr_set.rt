@@ -16,7 +16,7 @@ ghost use Rattle.base.specs.declared.error.proto_error.ProtoError.TheVariants as
 
 mod changes;
 mod changing_set;
-mod data_key;
+mod data_index;
 mod indexed_records;
 pub mod laws;
 mod placed_records;

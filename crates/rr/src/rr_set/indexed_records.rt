@@ -10,6 +10,7 @@ ghost use Rattle.std.specs.List.{list_any};
 ghost use Rattle.std.specs.Prelude.{IfNone, IfOk, IfSome, IsTrue, List, MatchOption, OnErr, OnOk, [], false, filter, is_ok, length, map, not, vec_capacity, ◌<◌, ◌∷◌, ◌≡◌, ◌≤◌};
 
 use crate::record::Record;
+use crate::rr_set::data_index::{DataIndex, key_of};
 use crate::rr_set::scanning::{
     enter, is_entry, join, put_alone, set_at, set_classes, set_ttls, take_all, take_data,
 };
@@ -41,9 +42,6 @@ enum Index {
     /// The place of each record.
     Made(Box<DataIndex>),
 }
-
-/// The place of each record, at the canonical form of its data.
-type DataIndex = BTreeMap<Vec<u8>, usize>;
 
 impl Model for IndexedRecords {
     ghost use Rattle.std.specs.Prelude.{List};
@@ -219,13 +217,6 @@ impl fmt::Debug for IndexedRecords {
     fn fmt<W: fmt::Write>(&self, f: &mut fmt::Formatter<W>) -> fmt::Result {
         fmt::Debug::fmt(&self.records, f)
     }
-}
-
-/// The key of data.
-fn key_of(rdata: &RData, alloc: Global) -> Result<Vec<u8>, AllocError>
-    ensures { IfOk result (λ key. key.items ≡ canonical_data rdata.now) }
-{
-    rdata.to_canonical(alloc).map_err(|_| AllocError)
 }
 
 /// The index of these records, or none where two of them have one canonical form.

@@ -1,45 +1,40 @@
 //! The records of a set at places that they keep, so that a change of one moves no other.
 
-ghost use Rattle.base_data.specs.DataOrder.{data_cmp};
-ghost use Rattle.base_data.specs.Kinds.{KeptData};
+ghost use Rattle.base_data.specs.Kinds.{canonical_data};
 ghost use Rattle.base_data.specs.declared.rdata.RData.{RData};
-ghost use Rattle.rr.specs.PlacedRecords.{IsNowhere, IsOnlyIn, IsPlaceIndex, present};
-ghost use Rattle.rr.specs.SetChanges.{joined};
+ghost use Rattle.rr.specs.PlacedRecords.{IsIn, IsIndexed, IsPlaced, present};
+ghost use Rattle.rr.specs.SetChanges.{has_data_of, joined};
 ghost use Rattle.rr.specs.SetUpdates.{has_data_of_one, without};
 ghost use Rattle.rr.specs.declared.record.Record.{Record as Entry};
-ghost use Rattle.std.specs.BTreeMap.{get};
 ghost use Rattle.std.specs.List.{list_any};
-ghost use Rattle.std.specs.Prelude.{IfOk, List, MatchOption, OnErr, OnOk, [], length, set, ◌<◌, ◌∷◌, ◌≡◌};
+ghost use Rattle.std.specs.Prelude.{IfOk, List, MatchOption, None, OnErr, OnOk, Option, Some, [], false, length, set, ℕ, ◌++◌, ◌<◌, ◌∷◌, ◌≡◌};
 
 use crate::record::Record;
-use crate::rr_set::data_key::DataKey;
+use crate::rr_set::data_index::{DataIndex, key_of};
 use std::alloc::{AllocError, Global};
 use std::collections::BTreeMap;
 use std::marker::Model;
+use std::mem::replace;
 
 /// Records in order, each found by its data at once.
 pub(super) struct PlacedRecords {
     places: Vec<Option<Record>>,
-    index: PlaceIndex,
+    /// None where records of other data have had one key.
+    index: Option<DataIndex>,
     count: usize,
 }
 
-/// The place of each record by its data. Data of which there is no record may be there too.
-type PlaceIndex = BTreeMap<DataKey, usize>;
-
 impl Model for PlacedRecords {
-    ghost use Rattle.base_data.specs.DataOrder.{data_cmp};
     ghost use Rattle.base_data.specs.declared.rdata.RData.{RData};
-    ghost use Rattle.rr.specs.PlacedRecords.{IsPlaceIndex, present};
+    ghost use Rattle.rr.specs.PlacedRecords.{IsPlaced, present};
     ghost use Rattle.rr.specs.declared.record.Record.{Record as Entry};
-    ghost use Rattle.std.specs.BTreeMap.{get};
     ghost use Rattle.std.specs.Prelude.{List, length, ◌≡◌};
 
     ghost Value = { List (Entry RData) };
 
     ghost view = { λ r. present r.places.items };
 
-    ghost invariant = { λ r. IsPlaceIndex (get data_cmp r.index) r.places.items
+    ghost invariant = { λ r. IsPlaced r.index r.places.items
         × (r.count ≡ length (present r.places.items)) };
 }
 
@@ -50,7 +45,7 @@ impl PlacedRecords {
     {
         PlacedRecords {
             places: Vec::new(alloc),
-            index: BTreeMap::new(alloc),
+            index: Some(BTreeMap::new(alloc)),
             count: 0,
         }
     }
@@ -67,15 +62,14 @@ impl PlacedRecords {
         ensures ok { OnOk result (self.new ≡ joined entry.now self.old) }
         ensures err { OnErr result (self.new ≡ self.old) }
     {
-        entry.rdata.fits();
-        let key = DataKey::new(*self.places.allocator(), &entry.rdata)?;
+        let key = key_of(&entry.rdata, *self.places.allocator())?;
         if let Some(place) = place_of(&self.index, &self.places, &key, entry) {
             put_at(&mut self.places, place, Some(entry.clone()?));
             return Ok(());
         }
-        self.index.insert(key, self.places.len())?;
-        self.places.reserve(1)?;
         let copy = entry.clone()?;
+        self.places.reserve(1)?;
+        take_in(&mut self.index, key, self.places.len())?;
         self.places.push_reserved(Some(copy));
         self.count += 1;
         Ok(())
@@ -88,12 +82,12 @@ impl PlacedRecords {
         ensures ok { OnOk result (self.new ≡ without (entry.now ∷ []) self.old) }
         ensures err { OnErr result (self.new ≡ self.old) }
     {
-        entry.rdata.fits();
-        let key = DataKey::new(*self.places.allocator(), &entry.rdata)?;
+        let key = key_of(&entry.rdata, *self.places.allocator())?;
         let Some(place) = place_of(&self.index, &self.places, &key, entry) else {
             return Ok(false);
         };
         put_at(&mut self.places, place, None);
+        take_out(&mut self.index, &key);
         self.count -= 1;
         Ok(true)
     }
@@ -128,19 +122,21 @@ impl Drop for PlacedRecords {
     }
 }
 
-/// The place of the record with the data of this one, which the key has too.
+/// The place of the record with the data of this one, whose key this is.
 fn place_of(
-    index: &PlaceIndex,
+    index: &Option<DataIndex>,
     places: &Vec<Option<Record>>,
-    key: &DataKey,
+    key: &[u8],
     entry: &Record,
 ) -> Option<usize>
-    requires indexed { IsPlaceIndex (get data_cmp index.now) places.now.items }
-    requires key { key.now ≡ entry.now.rdata }
-    requires fits { KeptData entry.now.rdata }
-    ensures { MatchOption result (IsNowhere entry.now.rdata places.now.items)
-        (IsOnlyIn entry.now.rdata places.now.items) }
+    requires placed { IsPlaced index.now places.now.items }
+    requires key { key.now ≡ canonical_data entry.now.rdata }
+    ensures { MatchOption result (list_any (has_data_of entry.now) (present places.now.items)
+        ≡ false) (IsIn entry.now.rdata places.now.items) }
 {
+    let Some(index) = index else {
+        return scanned(places, entry);
+    };
     let place = *index.get(key)?;
     let Some(Some(known)) = places.get(place) else {
         return None;
@@ -149,6 +145,54 @@ fn place_of(
         return None;
     }
     Some(place)
+}
+
+/// The place of a record with the data of this one, by looking at one place after the other.
+fn scanned(places: &Vec<Option<Record>>, entry: &Record) -> Option<usize>
+    ensures { MatchOption result (list_any (has_data_of entry.now) (present places.now.items)
+        ≡ false) (IsIn entry.now.rdata places.now.items) }
+{
+    for place in 0..places.len() {
+        let Some(known) = &places[place] else {
+            continue;
+        };
+        if known.rdata == entry.rdata {
+            return Some(place);
+        }
+    }
+    None
+}
+
+/// Takes the place of a new record into the index, if there is one. There is none then if other data has its key.
+fn take_in(index: &mut Option<DataIndex>, key: Vec<u8>, place: usize) -> Result<(), AllocError>
+    // It is the index of places at whose end such a record was put, if it was that of the others.
+    ensures ok { OnOk result ((ps : List (Option (Entry RData))) (r : Entry RData)
+        → IsIndexed index.old ps → length ps ≡ place → canonical_data r.rdata ≡ key.items
+        → IsIndexed index.new (ps ++ Some r ∷ [])) }
+    ensures err { OnErr result ((ps : List (Option (Entry RData)))
+        → IsIndexed index.old ps → IsIndexed index.new ps) }
+{
+    let Some(mut places) = replace(index, None) else {
+        return Ok(());
+    };
+    if places.insert(key, place)?.is_some() {
+        return Ok(());
+    }
+    *index = Some(places);
+    Ok(())
+}
+
+/// Takes the place of a record out of the index, if there is one.
+fn take_out(index: &mut Option<DataIndex>, key: &[u8])
+    // It is the index of places of which one was emptied where such a record stood, if it was that of all.
+    ensures { (ps : List (Option (Entry RData))) (p : ℕ) (r : Entry RData) → IsIndexed index.old ps
+        → IsIn r.rdata ps p → canonical_data r.rdata ≡ key.now
+        → IsIndexed index.new (set ps p None) }
+{
+    let Some(places) = index else {
+        return;
+    };
+    places.remove(key);
 }
 
 /// Puts a record at a place, or none.

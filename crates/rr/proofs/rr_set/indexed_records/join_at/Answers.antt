@@ -1,5 +1,6 @@
 use Rattle.std.proofs.Common.{rules, arith, ◌≡◌, ◌<◌, ◌∙◌, length}
-use Rattle.rr.proofs.IndexLemmas.{joined_after, joined_at}
+use Rattle.rr.proofs.Around.{joined_after}
+use Rattle.rr.proofs.IndexLemmas.{joined_at}
 use Rattle.rr.proofs.rr_set.indexed_records.join_at.Goals as goal
 
 pub returns-then-place-len : goal.returns-then-place-len

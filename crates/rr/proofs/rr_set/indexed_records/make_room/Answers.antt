@@ -5,7 +5,8 @@ use Rattle.std.specs.declared.alloc.Global.{Global}
 use Rattle.base_data.specs.declared.rdata.RData.{RData}
 use Rattle.rr.specs.DataIndex.{IsIndexOf, place_at}
 use Rattle.rr.specs.declared.record.Record.{Record}
-use Rattle.rr.proofs.IndexLemmas.{index_set, index_wider, joined_after, joined_at, none_of, place_here, place_is}
+use Rattle.rr.proofs.Around.{joined_after}
+use Rattle.rr.proofs.IndexLemmas.{index_set, index_wider, joined_at, none_of, place_here, place_is}
 use Rattle.rr.proofs.IndexLemmas.{place_known, place_last, place_others, pushed}
 use Rattle.rr.proofs.rr_set.indexed_records.make_room.Goals as goal
 
