@@ -58,14 +58,22 @@ fn room_after_name(room: usize, name: &Name) -> Option<usize>
     room.checked_sub(name_len(name))
 }
 
+/// What is left after bytes.
+fn room_after_bytes(room: usize, bytes: &[u8]) -> Option<usize>
+    ensures { MatchOption result (room < length bytes.now)
+        (λ left. left + length bytes.now ≡ room) }
+{
+    room.checked_sub(bytes.len())
+}
+
 /// What is left after data.
 fn room_after_data(room: usize, rdata: &RData) -> Option<usize>
     ensures { MatchOption result (room < plain_data rdata.now)
         (λ left. left + plain_data rdata.now ≡ room) }
 {
     match rdata {
-        RData::A(a) => room.checked_sub(a.address().octets().len()),
-        RData::AAAA(aaaa) => room.checked_sub(aaaa.address().octets().len()),
+        RData::A(a) => room_after_bytes(room, &a.octets),
+        RData::AAAA(aaaa) => room_after_bytes(room, &aaaa.octets),
         RData::NS(ns) => room_after_name(room, ns.name()),
         RData::CNAME(cname) => room_after_name(room, cname.name()),
         RData::PTR(ptr) => room_after_name(room, ptr.name()),
@@ -77,11 +85,11 @@ fn room_after_data(room: usize, rdata: &RData) -> Option<usize>
         }
         RData::SRV(srv) => room_after_name(room.checked_sub(6)?, srv.target()),
         RData::TXT(txt) => room_after_strings(room, txt),
-        RData::NULL(null) => room.checked_sub(null.bytes().len()),
+        RData::NULL(null) => room_after_bytes(room, null.bytes()),
         RData::OPT(opt) => room_after_options(room, opt.as_ref()),
-        RData::TSIG(tsig) => room.checked_sub(tsig.bytes().len()),
+        RData::TSIG(tsig) => room_after_bytes(room, tsig.bytes()),
         RData::Update0(_) => Some(room),
-        RData::Unknown { rdata, .. } => room.checked_sub(rdata.bytes().len()),
+        RData::Unknown { rdata, .. } => room_after_bytes(room, rdata.bytes()),
     }
 }
 

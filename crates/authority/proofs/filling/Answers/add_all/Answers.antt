@@ -1,18 +1,16 @@
-use Rattle.std.proofs.Common.{rules, IfOk, IsOkUnless, [], ◌∷◌, ◌≡◌, ℕ, ◌+◌, ◌-◌, ◌*◌, ◌<◌, ◌≤◌, length, ◌/◌, ◌%◌, Bool, true, false, nat_eq, nat_lt, List, ◌++◌, slice_index_or, slice_set, bit_and, bit_or, Fits, w8, w32, w64, Bor, MutBor}
-use Rattle.authority.specs.Filling.{Adds, Fills, FillsTo, FillsUpTo}
-use Rattle.authority.specs.Transfer.{given_from}
-use Rattle.authority.specs.Transfer.{is_between as stands_between}
-use Rattle.authority.specs.Transfer.{left_at, records_from}
-use Rattle.base.specs.RrKey.{key_cmp}
-use Rattle.base.specs.declared.dns_class.DNSClass.{DNSClass as Class}
-use Rattle.base.specs.declared.rr_key.RrKey.{RrKey as Key}
-use Rattle.base.specs.names.Labels.{NameValue}
-use Rattle.rr.specs.RecordSet.{SetValue}
-use Rattle.std.specs.BTreeMap.{BTreeMap as Tree}
-use Rattle.std.specs.BTreeMap.Range.{entries_between}
-use Rattle.std.specs.declared.ops.Bound.TheVariants.{Included, Unbounded}
+use Rattle.authority.proofs.TransferSteps.{begins_with}
 use Rattle.authority.proofs.filling.Answers.add_all.Goals as goal
+use Rattle.authority.specs.Filling.{Adds}
+use Rattle.base_data.specs.declared.rdata.RData.{RData}
+use Rattle.rr.proofs.SetSteps.{same_clone}
+use Rattle.rr.specs.declared.record.Record.{Record}
+use Rattle.std.proofs.Common.{Bool, subst}
 
--- src/filling.rt:153:5
 pub returns-clause-value : goal.returns-clause-value
-returns-clause-value c = ?
+returns-clause-value c =
+    let zone = c.args.zone.now in
+    begins_with zone.origin.now zone.class zone.sets.now c.args.soa.now c.in_ok-least.least c.in_ok-add_from.field-0
+    c.args.self.now c.add.new.self c.add_from.new.self c.in_ok-least.ensures.value
+    (subst (λ (b : Bool). Adds c.args.soa.now c.args.self.now b c.add.new.self) c.if-not-branch.false
+    (subst (λ (x : Record RData). Adds x c.args.self.now c.in_ok-add.field-0 c.add.new.self)
+    (same_clone _ _ c.in_ok-clone.ensures.cases) c.in_ok-add.ensures)) c.in_ok-add_from.ensures

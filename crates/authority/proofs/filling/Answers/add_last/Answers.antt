@@ -1,18 +1,14 @@
-use Rattle.std.proofs.Common.{rules, IfOk, IsOkUnless, [], ◌∷◌, ◌≡◌, ℕ, ◌+◌, ◌-◌, ◌*◌, ◌<◌, ◌≤◌, length, ◌/◌, ◌%◌, Bool, true, false, nat_eq, nat_lt, List, ◌++◌, slice_index_or, slice_set, bit_and, bit_or, Fits, w8, w32, w64, Bor, MutBor}
-use Rattle.authority.specs.Filling.{Adds, Fills, FillsTo, FillsUpTo}
-use Rattle.authority.specs.Transfer.{given_from}
-use Rattle.authority.specs.Transfer.{is_between as stands_between}
-use Rattle.authority.specs.Transfer.{left_at, records_from}
-use Rattle.base.specs.RrKey.{key_cmp}
-use Rattle.base.specs.declared.dns_class.DNSClass.{DNSClass as Class}
-use Rattle.base.specs.declared.rr_key.RrKey.{RrKey as Key}
-use Rattle.base.specs.names.Labels.{NameValue}
-use Rattle.rr.specs.RecordSet.{SetValue}
-use Rattle.std.specs.BTreeMap.{BTreeMap as Tree}
-use Rattle.std.specs.BTreeMap.Range.{entries_between}
-use Rattle.std.specs.declared.ops.Bound.TheVariants.{Included, Unbounded}
+use Rattle.authority.proofs.TransferSteps.{last_added}
 use Rattle.authority.proofs.filling.Answers.add_last.Goals as goal
+use Rattle.authority.specs.Filling.{Adds}
+use Rattle.base_data.specs.declared.rdata.RData.{RData}
+use Rattle.rr.proofs.SetSteps.{same_clone}
+use Rattle.rr.specs.declared.record.Record.{Record}
+use Rattle.std.proofs.Common.{Bool, subst, true}
 
--- src/filling.rt:129:13
 pub returns-then-branch : goal.returns-then-branch
-returns-then-branch c = ?
+returns-then-branch c = λ origin class sets.
+    last_added origin class sets c.args.soa.now c.args.self.now c.add.new.self
+    (subst (λ (b : Bool). Adds c.args.soa.now c.args.self.now b c.add.new.self) c.if-branch.true
+    (subst (λ (x : Record RData). Adds x c.args.self.now c.in_ok-add.field-0 c.add.new.self)
+    (same_clone _ _ c.in_ok-clone.ensures.cases) c.in_ok-add.ensures))

@@ -1,19 +1,13 @@
-use Rattle.std.proofs.Common.{rules, IfOk, IsOkUnless, [], ◌∷◌, ◌≡◌, ℕ, ◌+◌, ◌-◌, ◌*◌, ◌<◌, ◌≤◌, length, ◌/◌, ◌%◌, Bool, true, false, nat_eq, nat_lt, List, ◌++◌, slice_index_or, slice_set, bit_and, bit_or, Fits, w8, w32, w64, Bor, MutBor}
-use Rattle.authority.specs.Filling.{Adds, Fills, FillsTo, FillsUpTo}
-use Rattle.authority.specs.Transfer.{given_from}
-use Rattle.authority.specs.Transfer.{is_between as stands_between}
-use Rattle.authority.specs.Transfer.{left_at, records_from}
-use Rattle.base.specs.RrKey.{key_cmp}
-use Rattle.base.specs.declared.dns_class.DNSClass.{DNSClass as Class}
-use Rattle.base.specs.declared.rr_key.RrKey.{RrKey as Key}
-use Rattle.base.specs.names.Labels.{NameValue}
-use Rattle.rr.specs.RecordSet.{SetValue}
-use Rattle.std.specs.BTreeMap.{BTreeMap as Tree}
-use Rattle.std.specs.BTreeMap.Range.{entries_between}
-use Rattle.std.specs.declared.ops.Bound.TheVariants.{Included, Unbounded}
 use Rattle.authority.proofs.filling.Answers.fill.Goals as goal
+use Rattle.authority.specs.Filling.{FillsTo}
+use Rattle.authority.specs.Transfer.{left_at}
+use Rattle.authority.specs.declared.transferring.TransferPlace.{TransferPlace}
+use Rattle.std.proofs.Common.{subst, sym}
 
--- src/filling.rt:167:5
 pub returns-in_ok-add_last-in-LastSoa-clause-value :
     goal.returns-in_ok-add_last-in-LastSoa-clause-value
-returns-in_ok-add_last-in-LastSoa-clause-value c = ?
+returns-in_ok-add_last-in-LastSoa-clause-value c =
+    let zone = c.args.zone.now in
+    subst (λ (p : TransferPlace). FillsTo (left_at zone.origin.now zone.class zone.sets.now c.args.soa.now) p
+    c.args.self.now c.in_ok-add_last-in-LastSoa.field-0 c.add_last.new.self) (sym c.in-LastSoa.is)
+    (c.in_ok-add_last-in-LastSoa.ensures zone.origin.now zone.class zone.sets.now)
