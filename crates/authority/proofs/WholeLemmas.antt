@@ -88,8 +88,8 @@ module _ (limit : ℕ) (m : MessageValue) (opt : ℕ)
 
 -- EDNS of a reply takes eleven bytes
 opt_most : (code : ResponseCode) (e : Option Edns)
-    → plain_records (as_list (option_map edns_record (option_map (with_high_bits code) (option_map edns_of_reply e)))) ≤
-    11
+    → plain_records (as_list (option_map edns_record (option_map (with_high_bits code) (option_map edns_of_reply e))))
+    ≤ 11
 opt_most code None = omega arith
 opt_most code (Some e) = omega arith
 

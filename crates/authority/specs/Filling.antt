@@ -5,7 +5,7 @@ use Rattle.authority.specs.declared.transferring.TransferPlace.{TransferPlace}
 use Rattle.base_data.specs.declared.rdata.RData.{RData}
 use Rattle.rr.specs.Record.{plain_record}
 use Rattle.rr.specs.declared.record.Record.{Record}
-use Rattle.std.specs.Prelude.{Bool, List, MatchOption, Option, [], false, true, ℕ, ◌+◌, ◌++◌, ◌<◌, ◌∷◌, ◌≡◌, ◌⊎◌}
+use Rattle.std.specs.Prelude.{Bool, List, MatchOption, Option, [], false, true, ◌+◌, ◌++◌, ◌<◌, ◌∷◌, ◌≡◌, ◌⊎◌}
 
 -- A record was added, and takes its bytes of the room; or it had none, and nothing changed.
 abbrev pub Adds : Record RData → Answers → Bool → Answers → Type 0
