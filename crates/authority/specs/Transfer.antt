@@ -134,8 +134,8 @@ pub record IsFull (room : ℕ) (rs : List (Record RData)) : Type 0 where
 abbrev pub room_beside : List Query → ℕ
 room_beside qs = MAX_MESSAGE - (12 + 11 + plain_queries qs)
 
--- A message of a transfer with this SOA, and the place after it: its answers are the next of those that are left, and
--- not none; none of it is cut; and it ends only with the last, or before one that has no room.
+-- A message of a transfer with this SOA, and the place after it: its answers, one at least, are the next of those that
+-- are left; none of it is cut; and it ends only with the last, or before one that has no room.
 pub record IsNext (origin : NameValue) (class : DNSClass) (sets : BTreeMap RrKey SetValue) (soa : Record RData)
     (query : MessageValue) (place : TransferPlace) (message : MessageValue) (next : TransferPlace) : Type 0 where
   pub answers : List (Record RData)

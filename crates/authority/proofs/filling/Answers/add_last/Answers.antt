@@ -4,7 +4,7 @@ use Rattle.authority.specs.Filling.{Adds}
 use Rattle.base_data.specs.declared.rdata.RData.{RData}
 use Rattle.rr.proofs.SetSteps.{same_clone}
 use Rattle.rr.specs.declared.record.Record.{Record}
-use Rattle.std.proofs.Common.{Bool, subst, true}
+use Rattle.std.proofs.Common.{Bool, subst}
 
 pub returns-then-branch : goal.returns-then-branch
 returns-then-branch c = λ origin class sets.
