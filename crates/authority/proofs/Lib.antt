@@ -3,11 +3,15 @@ pub mod AliasLemmas
 pub mod AnswerLaws
 pub mod AnswerLemmas
 pub mod CutLemmas
+pub mod FillingLemmas
 pub mod FirstKey
 pub mod LawLemmas
 pub mod RecordLemmas
 pub mod SentLemmas
 pub mod SetLemmas
+pub mod SetsFromLemmas
 pub mod SourceLemmas
 pub mod StandingLemmas
+pub mod TransferSteps
 pub mod WayLemmas
+pub mod WholeLemmas

@@ -1,8 +1,10 @@
 pub mod Answer
 pub mod Chain
+pub mod Filling
 pub mod Found
 pub mod Lookup
 pub mod Reply
 pub mod Sent
 pub mod Standing
+pub mod Transfer
 pub mod ZoneRef

@@ -125,7 +125,7 @@ fn owns(name: &Name, records: &[Record]) -> bool
 }
 
 /// An answer with AA that has nothing but answers. Takes no memory.
-fn plain(alloc: Global, response_code: ResponseCode, answers: Vec<Record>) -> Answer
+pub(crate) fn plain(alloc: Global, response_code: ResponseCode, answers: Vec<Record>) -> Answer
     ensures { answer_value result ≡ with_authority response_code answers.items [] [] }
 {
     Answer {

@@ -17,7 +17,7 @@ use rr::{Record, RecordSet};
 use std::alloc::{AllocError, Global};
 
 /// The least TTL of the records that have a place in an answer (RFC 2181, 5.2); 0 where none has.
-fn least_ttl(records: &[Record]) -> u32
+pub(crate) fn least_ttl(records: &[Record]) -> u32
     ensures { result ≡ the_least (shown (map datum_of records.now)) }
 {
     let mut least: Option<u32> = None;
@@ -34,7 +34,12 @@ fn least_ttl(records: &[Record]) -> u32
 }
 
 /// A record of this owner, class and TTL.
-fn record_of(owner: &Name, class: DNSClass, ttl: u32, rdata: &RData) -> Result<Record, AllocError>
+pub(crate) fn record_of(
+    owner: &Name,
+    class: DNSClass,
+    ttl: u32,
+    rdata: &RData,
+) -> Result<Record, AllocError>
     ensures { IfOk result (λ r. r
         ≡ record {
           name = owner.now;

@@ -65,7 +65,7 @@ pub fn reply(
 }
 
 /// What a query is refused with before its question is looked at.
-fn header_refusal(query: &Message) -> Option<ResponseCode>
+pub(crate) fn header_refusal(query: &Message) -> Option<ResponseCode>
     ensures { result ≡ the_header_refusal (message_value query.now) }
 {
     if query.version() != 0 {
@@ -131,7 +131,7 @@ pub(crate) fn form_error(alloc: Global, query: &Metadata) -> Message
 }
 
 /// The answer that is a code alone. Takes no memory.
-fn only_code(alloc: Global, response_code: ResponseCode) -> Answer
+pub(crate) fn only_code(alloc: Global, response_code: ResponseCode) -> Answer
     ensures { answer_value result ≡ the_code response_code }
 {
     Answer {
@@ -179,7 +179,7 @@ fn reply_edns(alloc: Global, edns: Option<&Edns>) -> Option<Edns>
 }
 
 /// An answer as a message.
-fn framed(alloc: Global, query: &Message, answer: Answer) -> Result<Message, AllocError>
+pub(crate) fn framed(alloc: Global, query: &Message, answer: Answer) -> Result<Message, AllocError>
     ensures { IfOk result (λ m. message_value m ≡ the_frame (message_value query.now) (answer_value answer)) }
 {
     let queries = one_question(alloc, &query.queries)?;

@@ -1,4 +1,5 @@
-//! Tests of `authority`: what a zone has for names and types, what is answered, and which bytes are sent.
+//! Tests of `authority`: what a zone has for names and types, what is answered, which bytes
+//! are sent, and the messages of zone transfers.
 #![tactic(auto)]
 
 #[cfg(test)]
@@ -7,5 +8,7 @@ mod answers;
 mod lookups;
 #[cfg(test)]
 mod responses;
+#[cfg(test)]
+mod transfers;
 #[cfg(test)]
 mod zone;

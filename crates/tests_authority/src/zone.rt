@@ -124,7 +124,7 @@ pub(crate) fn wide_zone(alloc: Global) -> Result<(Name, BTreeMap<RrKey, RecordSe
 }
 
 /// The origin and the sets of a zone's text.
-fn parsed(alloc: Global, text: &str) -> Result<(Name, BTreeMap<RrKey, RecordSet>), Fail>
+pub(crate) fn parsed(alloc: Global, text: &str) -> Result<(Name, BTreeMap<RrKey, RecordSet>), Fail>
     ensures { IfOk result (λ r. AreUnderKeys r.1) }
 {
     let includes = BTreeMap::new(alloc);

@@ -1,0 +1,160 @@
+-- The sets of a map from a key on, in a transfer.
+use Rattle.authority.proofs.FirstKey.{is_false}
+use Rattle.authority.specs.Transfer.{given, given_from, is_between, records_from}
+use Rattle.base.proofs.names.BelowLemmas.{below_le}
+use Rattle.base.proofs.names.KeyLemmas.{key_cmp-exact, key_cmp-total}
+use Rattle.base.specs.names.Labels.{NameValue}
+use Rattle.base.specs.names.NameOrder.{same_name}
+use Rattle.base.specs.names.Parents.{is_at_or_below}
+use Rattle.base.specs.RrKey.{key_cmp}
+use Rattle.base.specs.declared.dns_class.DNSClass.{DNSClass}
+use Rattle.base.specs.declared.rr_key.RrKey.{RrKey}
+use Rattle.op_use.proofs.OwnerKeys.{from_is, least}
+use Rattle.rr.specs.RecordSet.{SetValue, is_soa}
+use Rattle.std.proofs.Common.{ap, append_assoc, refl, subst, sym, ◌++◌, ◌∙◌}
+use Rattle.std.proofs.Math.Bool.{and-true}
+use Rattle.std.proofs.lemmas.Bool.{cond-false, cond-true, false≢true}
+use Rattle.std.proofs.lemmas.Map.Keys.{sorted_head, sorted_tail}
+use Rattle.std.specs.BTreeMap.Range.{entries_between, range_contains}
+use Rattle.std.specs.List.Sorted.{IsStrictlySortedBy}
+use Rattle.std.specs.List.{AllByRecursion, filter, flat_map}
+use Rattle.std.specs.Map.{keys_of}
+use Rattle.std.specs.Ordering.{is_le, ordering_reverse}
+use Rattle.std.specs.Prelude.{Bool, List, [], false, not, true, ℕ, ◌&&◌, ◌∷◌, ◌≡◌}
+use Rattle.std.specs.declared.cmp.Ordering.TheVariants.{Equal, Greater, Less}
+use Rattle.std.specs.declared.cmp.Ordering.{Ordering}
+use Rattle.std.specs.declared.ops.Bound.TheVariants.{Included, Unbounded}
+
+-- whether an entry stands at a key or after it
+abbrev pub stands_from : RrKey → RrKey × SetValue → Bool
+stands_from k e = range_contains key_cmp (Included k) Unbounded e.0
+
+-- the keys after one are after those before it
+after_too : (k a b : RrKey) → is_le (key_cmp k a) ≡ true → key_cmp a b ≡ Less → is_le (key_cmp k b) ≡ true
+after_too k a b le less = go (key_cmp k a) refl le where
+  go : (o : Ordering) → key_cmp k a ≡ o → is_le o ≡ true → is_le (key_cmp k b) ≡ true
+  go Less e h = ap is_le (key_cmp-total.trans k a b e less)
+  go Equal e h = ap (λ q. is_le (key_cmp q b)) (key_cmp-exact k a e) ∙ ap is_le less
+  go Greater e h = cc
+
+both : (a b : Bool) → a ≡ true → b ≡ true → (a && b) ≡ true
+both a b p q = ap (λ x. x && b) p ∙ q
+
+all_from : (k a : RrKey) (es : List (RrKey × SetValue)) → is_le (key_cmp k a) ≡ true
+    → AllByRecursion (λ q. key_cmp a q ≡ Less) (keys_of es) → filter (stands_from k) es ≡ es
+all_from k a [] le h = refl
+all_from k a (e ∷ es) le (h, hs) =
+    cond-true _ _ _ (both (is_le (key_cmp k e.0)) true (after_too k a e.0 le h) refl)
+    ∙ ap (λ xs. e ∷ xs) (all_from k a es le hs)
+
+-- Where entries are in order, those from a key on are an end of them.
+abbrev pub IsEnd : List (RrKey × SetValue) → List (RrKey × SetValue) → Type 0
+IsEnd all es = (front : List (RrKey × SetValue)) × (all ≡ front ++ es)
+
+from_is_end : (k : RrKey) (es : List (RrKey × SetValue)) → IsStrictlySortedBy key_cmp (keys_of es)
+    → IsEnd es (filter (stands_from k) es)
+from_is_end k [] s = ([], refl)
+from_is_end k (e ∷ es) s =
+    go (stands_from k e) refl (from_is_end k es (sorted_tail key_cmp e.0 (keys_of es) s)) where
+      go : (b : Bool) → stands_from k e ≡ b → IsEnd es (filter (stands_from k) es)
+          → IsEnd (e ∷ es) (filter (stands_from k) (e ∷ es))
+      go true t more = (
+        [],
+        sym (cond-true _ _ _ t ∙ ap (λ xs. e ∷ xs)
+            (all_from k e.0 es (sym (and-true (is_le (key_cmp k e.0))) ∙ t) (sorted_head key_cmp e.0 (keys_of es) s))),
+      )
+      go false t more =
+          (e ∷ more.0, ap (λ xs. e ∷ xs) (more.1 ∙ ap (λ xs. more.0 ++ xs) (sym (cond-false _ _ _ t))))
+
+-- of one key after another, the other isn't from it on
+not_from : (a k : RrKey) → key_cmp a k ≡ Less → (is_le (key_cmp k a) && true) ≡ false
+not_from a k h = ap (λ o. is_le o && true) (key_cmp-total.antisymm k a ∙ ap ordering_reverse h)
+
+to_itself : (k : RrKey) → is_le (key_cmp k k) ≡ true
+to_itself k = go (key_cmp k k) refl where
+  go : (o : Ordering) → key_cmp k k ≡ o → is_le (key_cmp k k) ≡ true
+  go Less e = ap is_le e
+  go Equal e = ap is_le e
+  go Greater e = cc (key_cmp-total.antisymm k k ∙ ap ordering_reverse e)
+
+at_place : (P : RrKey → Type 0) (front : List (RrKey × SetValue)) (e : RrKey × SetValue)
+    (es : List (RrKey × SetValue)) → AllByRecursion P (keys_of (front ++ e ∷ es)) → P e.0
+at_place P [] e es (h, hs) = h
+at_place P (x ∷ front) e es (h, hs) = at_place P front e es hs
+
+-- those from the key of one of them on
+from_key : (front : List (RrKey × SetValue)) (e : RrKey × SetValue) (es : List (RrKey × SetValue))
+    → IsStrictlySortedBy key_cmp (keys_of (front ++ e ∷ es)) → filter (stands_from e.0) (front ++ e ∷ es) ≡ e ∷ es
+from_key [] e es s =
+    cond-true _ _ _ (both (is_le (key_cmp e.0 e.0)) true (to_itself e.0) refl) ∙ ap (λ xs. e ∷ xs)
+    (all_from e.0 e.0 es (to_itself e.0) (sorted_head key_cmp e.0 (keys_of es) s))
+from_key (x ∷ front) e es s =
+    cond-false _ _ _ (not_from x.0 e.0 (at_place (λ q. key_cmp x.0 q ≡ Less) front e es
+    (sorted_head key_cmp x.0 (keys_of (front ++ e ∷ es)) s)))
+    ∙ from_key front e es (sorted_tail key_cmp x.0 (keys_of (front ++ e ∷ es)) s)
+
+-- ---- a walk over the sets
+
+pub end_begins : (k : RrKey) (s es : List (RrKey × SetValue)) → IsStrictlySortedBy key_cmp (keys_of es)
+    → s ≡ entries_between key_cmp (Included k) Unbounded es → IsEnd es s
+end_begins k s es sorted is =
+    let end = from_is_end k es sorted in
+    (end.0, end.1 ∙ ap (λ xs. end.0 ++ xs) (sym is))
+
+pub end_goes_on : (all it es : List (RrKey × SetValue)) (e : RrKey × SetValue) → IsEnd all it → it ≡ e ∷ es
+    → IsEnd all es
+end_goes_on all it es e end is = (
+  end.0 ++ e ∷ [],
+  end.1 ∙ ap (λ xs. end.0 ++ xs) is ∙ sym (append_assoc end.0 (e ∷ []) es),
+)
+
+pub end_from : (all it es : List (RrKey × SetValue)) (e : RrKey × SetValue) → IsStrictlySortedBy key_cmp (keys_of all)
+    → IsEnd all it → it ≡ e ∷ es → entries_between key_cmp (Included e.0) Unbounded all ≡ e ∷ es
+end_from all it es e sorted end is =
+    let same : all ≡ end.0 ++ e ∷ es = end.1 ∙ ap (λ xs. end.0 ++ xs) is in
+    ap (filter (stands_from e.0)) same
+    ∙ from_key end.0 e es (subst (λ xs. IsStrictlySortedBy key_cmp (keys_of xs)) same sorted)
+
+-- ---- what they give
+
+module _ (origin : NameValue) (class : DNSClass) where
+  pub from_first : (es : List (RrKey × SetValue)) → given_from origin class 0 es ≡ flat_map (given origin class 0) es
+  from_first [] = refl
+  from_first (e ∷ es) = refl
+
+  pub given_none : (j : ℕ) (e : RrKey × SetValue) (es : List (RrKey × SetValue)) → is_between origin e.0 ≡ false
+      → given_from origin class j (e ∷ es) ≡ given_from origin class 0 es
+  given_none j e es h =
+      ap (λ xs. xs ++ flat_map (given origin class 0) es) (cond-false _ _ _ h) ∙ sym (from_first es)
+
+  pub given_some : (j : ℕ) (e : RrKey × SetValue) (es : List (RrKey × SetValue)) → is_between origin e.0 ≡ true
+      → given_from origin class j (e ∷ es) ≡ records_from class j e.1 ++ given_from origin class 0 es
+  given_some j e es h =
+      ap (λ xs. xs ++ flat_map (given origin class 0) es) (cond-true _ _ _ h)
+      ∙ ap (λ xs. records_from class j e.1 ++ xs) (sym (from_first es))
+
+  before_none : (e : RrKey × SetValue) → stands_from (least origin) e ≡ false → given origin class 0 e ≡ []
+  before_none e f = cond-false _ _ _ (ap (λ b. b && not (is_soa e.0.record_type && same_name e.0.name origin))
+      (is_false (is_at_or_below origin e.0.name)
+      (λ t. false≢true (sym f ∙ from_is origin e.0 ∙ below_le origin e.0.name t))))
+
+  -- nothing is given before the least key of the origin
+  from_least : (es : List (RrKey × SetValue))
+      → flat_map (given origin class 0) (filter (stands_from (least origin)) es) ≡ flat_map (given origin class 0) es
+  from_least [] = refl
+  from_least (e ∷ es) = go (stands_from (least origin) e) refl (from_least es) where
+    go : (b : Bool) → stands_from (least origin) e ≡ b
+        → flat_map (given origin class 0) (filter (stands_from (least origin)) es) ≡ flat_map (given origin class 0) es
+        → flat_map (given origin class 0) (filter (stands_from (least origin)) (e ∷ es))
+        ≡ given origin class 0 e ++ flat_map (given origin class 0) es
+    go true t more = ap (flat_map (given origin class 0)) (cond-true _ _ _ t)
+        ∙ ap (λ xs. given origin class 0 e ++ xs) more
+    go false t more = ap (flat_map (given origin class 0)) (cond-false _ _ _ t) ∙ more
+        ∙ sym (ap (λ xs. xs ++ flat_map (given origin class 0) es) (before_none e t))
+
+  pub all_between : (k : RrKey) (es : List (RrKey × SetValue)) → k ≡ least origin
+      → given_from origin class 0 (entries_between key_cmp (Included k) Unbounded es)
+      ≡ flat_map (given origin class 0) es
+  all_between k es is =
+      ap (λ q. given_from origin class 0 (entries_between key_cmp (Included q) Unbounded es)) is
+      ∙ from_first (filter (stands_from (least origin)) es) ∙ from_least es
