@@ -232,7 +232,7 @@ fn records_without_data_are_not_transferred(rt: HostRuntime) -> Result<(), Fail>
             rdata: RData::Update0(key.record_type),
             mdns_cache_flush: false,
         };
-        set.insert(empty, 0)?;
+        set.renew(empty)?;
     }
     let after = transferred(rt.alloc(), &origin, &sets, 3)?;
     assert!(rt; after.is_right);
