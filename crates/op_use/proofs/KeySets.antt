@@ -3,14 +3,18 @@ use Rattle.base.proofs.names.KeyLemmas.{key_cmp-total}
 use Rattle.base.specs.RrKey.{key_cmp}
 use Rattle.base.specs.declared.rr_key.RrKey.{RrKey}
 use Rattle.op_use.proofs.ZoneSteps.{same_key, tied}
+use Rattle.base_data.specs.declared.rdata.RData.{RData}
 use Rattle.op_use.specs.MapUpdates.{has_key}
+use Rattle.op_use.specs.Outcome.{each}
+use Rattle.rr.specs.declared.record.Record.{Record}
+use Rattle.std.specs.Borrow.{Bor}
 use Rattle.op_use.specs.Zone.{is_owned}
 use Rattle.base.specs.names.Labels.{NameValue}
 use Rattle.std.proofs.Common.{ap, arith, refl, subst, sym, ◌∙◌}
 use Rattle.std.proofs.Math.Bool.{or-false, or-true}
 use Rattle.std.proofs.lemmas.Bool.{true≢false}
 use Rattle.std.proofs.lemmas.List.Folds.{list_any-append}
-use Rattle.std.proofs.lemmas.List.{take_more}
+use Rattle.std.proofs.lemmas.List.{map-append, take_more}
 use Rattle.std.proofs.lemmas.Map.Views.{any-filter_same}
 use Rattle.std.specs.BTreeMap as tree
 use Rattle.std.specs.BTreeMap.{BTreeMap, is_at}
@@ -34,6 +38,16 @@ each_key P k here others q = by (eq_by_cmp key_cmp k q) refl where
 pub one_taken : {X : Type 0} (xs : List X) (i : ℕ) (x : X) → i < length xs → x ≡ slice_index_or xs i x
     → take i xs ++ x ∷ [] ≡ take (i + 1) xs
 one_taken xs i x h e = ap (λ y. take i xs ++ y ∷ []) e ∙ sym (take_more xs i x h)
+
+-- the same of what is lent
+pub one_lent : (rs : List (Bor (Record RData))) (i : ℕ) (r : Bor (Record RData)) → i < length rs
+    → r ≡ slice_index_or rs i r → each (take i rs) ++ r.now ∷ [] ≡ each (take (i + 1) rs)
+one_lent rs i r h e = sym (map-append (λ (x : Bor (Record RData)). x.now) (take i rs) (r ∷ [])) ∙ ap each (one_taken rs i r h e)
+
+-- no item is left
+pub emptied : {X : Type 0} (xs : List X) → (0 < length xs → false ≡ true) → xs ≡ []
+emptied [] h = refl
+emptied (x ∷ xs) h = absurd (true≢false (sym (h (omega arith))))
 
 -- one key more
 pub last_here : (k : RrKey) (ks : List RrKey) → has_key k (ks ++ k ∷ []) ≡ true
@@ -71,10 +85,7 @@ module _ {X : Type 0} where
 
   pub none_more : (m : BTreeMap RrKey X) (q : RrKey) → (0 < length m.entries → false ≡ true)
       → tree.get key_cmp m q ≡ None
-  none_more m q h = none_in m q (by m.entries h) where
-    by : (es : List (RrKey × X)) → (0 < length es → false ≡ true) → es ≡ []
-    by [] h = refl
-    by (e ∷ es) h = absurd (true≢false (sym (h (omega arith))))
+  none_more m q h = none_in m q (emptied m.entries h)
 
   -- the new map has o under a key, and else what the old one has
   abbrev pub Sets : RrKey → Option X → BTreeMap RrKey X → BTreeMap RrKey X → Type 0

@@ -60,7 +60,7 @@ is_from owner k = range_contains key_cmp (Included (least owner)) Unbounded k
 pub from_is : (owner : NameValue) (k : RrKey) → is_from owner k ≡ is_le (against owner k)
 from_is owner k = and-true (is_le (key_cmp (least owner) k)) ∙ by_name (against owner k) k.record_type
 
-owned_is : (owner : NameValue) (k : RrKey) → is_owned owner k ≡ is_eq (against owner k)
+pub owned_is : (owner : NameValue) (k : RrKey) → is_owned owner k ≡ is_eq (against owner k)
 owned_is owner k = same_by-tie exact (lowered owner) k.name
 
 -- after a key of a later owner stand later owners

@@ -1,8 +1,8 @@
 -- Updates look at the sets of the owners that they name alone, and change no others.
-use Rattle.base.proofs.names.KeyLemmas.{key_cmp-exact}
+use Rattle.base.proofs.names.KeyLemmas.{key_cmp-exact, key_cmp-total}
 use Rattle.base.specs.names.Labels.{NameValue}
-use Rattle.base.specs.names.NameOrder.{exact, lowered, same_name}
-use Rattle.base.specs.names.NameOrderLaws.{same_by-equiv}
+use Rattle.base.specs.names.NameOrder.{exact, lowered, same_lower, same_name}
+use Rattle.base.specs.names.NameOrderLaws.{same_by-equiv, same_lower-exact}
 use Rattle.base.specs.RrKey.{key_cmp, key_of}
 use Rattle.base.specs.declared.record_type.RecordType.TheVariants as types
 use Rattle.base.specs.declared.record_type.RecordType.{RecordType}
@@ -23,7 +23,8 @@ use Rattle.std.proofs.Common.{ap, refl, subst, sym, ◌∙◌}
 use Rattle.std.proofs.Math.Bool.{and-false, or-true}
 use Rattle.std.proofs.lemmas.Bool.{or_parts, true≢false}
 use Rattle.std.specs.FinMap as fin
-use Rattle.std.specs.List.{fold, list_any}
+use Rattle.std.specs.Cmp.{eq_by_cmp_equiv}
+use Rattle.std.specs.List.{filter, fold, list_any}
 use Rattle.std.specs.Ordering.{eq_by_cmp}
 use Rattle.std.specs.Prelude.{Bool, List, None, [], cond, false, if◌then◌else◌, is_some, length, nat_le}
 use Rattle.std.specs.Prelude.{not, true, unwrap_or, ◌&&◌, ◌||◌, ◌∷◌, ◌≡◌}
@@ -263,3 +264,100 @@ records_stay [] z q xs free = refl
 records_stay (r ∷ rs) z q xs free =
     let parts = or_parts (is_owned r.name q) (names_owner rs q) free in
     records_stay rs (update z r) q _ parts.1 ∙ after_use_there r q parts.0 (use_of z.class r.dns_class) z xs
+
+-- ---- the updates of one owner
+
+module _ (q : RrKey) where
+  -- whether a key is of the owner of q
+  abbrev beside : RrKey → Bool
+  beside k = same_lower q.name k.name
+
+  -- the updates of that owner
+  abbrev pub own_updates : List (Record RData) → List (Record RData)
+  own_updates rs = filter (λ r. is_owned r.name q) rs
+
+  both_of : (r : Record RData) (k : RrKey) → is_owned r.name q ≡ true → is_owned r.name k ≡ true → beside k ≡ true
+  both_of r k h i = ap (λ n. same_lower n k.name) (sym (same_lower-exact (lowered r.name) q.name h)) ∙ i
+
+  either_own : (r : Record RData) (rest : Bool) (k : RrKey) → is_owned r.name q ≡ true → (rest ≡ true → beside k ≡ true)
+      → (b : Bool) → is_owned r.name k ≡ b → (b || rest) ≡ true → beside k ≡ true
+  either_own r rest k e more true f t = both_of r k e f
+  either_own r rest k e more false f t = more t
+
+  own_more : (r : Record RData) (us : List (Record RData)) (k : RrKey) → (names_owner us k ≡ true → beside k ≡ true)
+      → (b : Bool) → is_owned r.name q ≡ b → names_owner (cond b (r ∷ us) us) k ≡ true → beside k ≡ true
+  own_more r us k more true e t = either_own r (names_owner us k) k e more (is_owned r.name k) refl t
+  own_more r us k more false e t = more t
+
+  pub own_beside : (rs : List (Record RData)) (k : RrKey) → names_owner (own_updates rs) k ≡ true → beside k ≡ true
+  own_beside [] k h = absurd cc
+  own_beside (r ∷ rs) k h = own_more r (own_updates rs) k (λ t. own_beside rs k t) (is_owned r.name q) refl h
+
+  named_more_own : (r : Record RData) (rs us : List (Record RData)) → (names_set us q ≡ true → names_set rs q ≡ true)
+      → (b : Bool) → names_set (cond b (r ∷ us) us) q ≡ true → names_set (r ∷ rs) q ≡ true
+  named_more_own r rs us more true t = either (is_under r q) t where
+    either : (c : Bool) → (c || names_set us q) ≡ true → (c || names_set rs q) ≡ true
+    either true t = refl
+    either false t = more t
+  named_more_own r rs us more false t = ap (λ b. is_under r q || b) (more t) ∙ or-true (is_under r q)
+
+  pub own_named : (rs : List (Record RData)) → names_set (own_updates rs) q ≡ true → names_set rs q ≡ true
+  own_named [] h = h
+  own_named (r ∷ rs) h = named_more_own r rs (own_updates rs) (own_named rs) (is_owned r.name q) h
+
+  -- an update of another owner leaves those keys
+  module _ (r : Record RData) (free : is_owned r.name q ≡ false) where
+    other : (k : RrKey) → beside k ≡ true → is_owned r.name k ≡ false
+    other k h = by (is_owned r.name k) refl where
+      by : (b : Bool) → is_owned r.name k ≡ b → b ≡ false
+      by true e = absurd (true≢false
+          (sym (ap (same_lower (lowered r.name)) (same_lower-exact q.name k.name h) ∙ e) ∙ free))
+      by false e = refl
+
+    put_beside : (z : Zone) (xs : List Datum) (k : RrKey) → beside k ≡ true
+        → fin.get z.sets k ≡ fin.get (put z (record_key r) xs).sets k
+    put_beside z xs k h = sym (get_with_set z.sets (record_key r) xs k
+        ∙ ap (λ b. cond b (kept xs) (fin.get z.sets k))
+        ((eq_by_cmp_equiv key_cmp-total).symm k (record_key r) ∙ not_under r k (other k h)))
+
+    stays_by : (how : Use) (z : Zone) (k : RrKey) → beside k ≡ true
+        → fin.get z.sets k ≡ fin.get (update_by how z r).sets k
+    stays_by OfZone z k h = by (is_kept_out z r) where
+      by : (b : Bool) → fin.get z.sets k
+          ≡ fin.get (if b then z else put z (record_key r) (with_datum r (at z (record_key r)))).sets k
+      by true = refl
+      by false = put_beside z _ k h
+    stays_by OfAny z k h = sym (fin.get-retain_keys z.sets (λ k. not (goes_with z r k)) k
+        (λ x t. ap (λ k. not (goes_with z r k)) (sym (key_cmp-exact k x t)))
+        ∙ ap (λ b. cond (not b) (fin.get z.sets k) None) (not_gone r k (other k h) z))
+    stays_by OfNone z k h = by (is_needed z r) where
+      by : (b : Bool) → fin.get z.sets k
+          ≡ fin.get (if b then z else put z (record_key r) (removed (at z (record_key r)) r)).sets k
+      by true = refl
+      by false = put_beside z _ k h
+    stays_by OfNothing z k h = refl
+
+    agrees_beside : (z : Zone) → Agrees beside z (update z r)
+    agrees_beside z =
+        let place = same_place_by (use_of z.class r.dns_class) z r in
+        record {
+          origin = sym place.0;
+          class = sym place.1;
+          sets = λ k h. stays_by (use_of z.class r.dns_class) z k h;
+        }
+
+  of_owner_next : (r : Record RData) (rs : List (Record RData)) (z : Zone) (xs : List (Record RData))
+      → ((z : Zone) (xs : List (Record RData)) → records_after z (own_updates rs) q xs ≡ records_after z rs q xs)
+      → (b : Bool) → is_owned r.name q ≡ b
+      → records_after z (cond b (r ∷ own_updates rs) (own_updates rs)) q xs ≡ records_after z (r ∷ rs) q xs
+  of_owner_next r rs z xs more true e = more (update z r) (after_update z r q xs)
+  of_owner_next r rs z xs more false e =
+      records_same beside (own_updates rs) z (update z r) q xs (own_beside rs) (agrees_beside r e z)
+      ∙ more (update z r) xs
+      ∙ ap (records_after (update z r) rs q) (sym (after_use_there r q e (use_of z.class r.dns_class) z xs))
+
+  -- what updates leave under a key those of its owner leave there
+  pub of_owner : (rs : List (Record RData)) (z : Zone) (xs : List (Record RData))
+      → records_after z (own_updates rs) q xs ≡ records_after z rs q xs
+  of_owner [] z xs = refl
+  of_owner (r ∷ rs) z xs = of_owner_next r rs z xs (of_owner rs) (is_owned r.name q) refl

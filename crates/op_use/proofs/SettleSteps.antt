@@ -9,7 +9,7 @@ use Rattle.op_use.proofs.KeySets.{Sets, each_key, owned_key, put_beside, put_her
 use Rattle.op_use.proofs.ZoneSteps.{same_key, tied}
 use Rattle.op_use.specs.Applying.{IsZoneMap, names_owner, records_in}
 use Rattle.op_use.specs.MapUpdates.{has_key, names_set}
-use Rattle.op_use.specs.Outcome.{FitsThere, IsSettled, NamesKeys, SettlesAt, added_at}
+use Rattle.op_use.specs.Outcome.{FitsThere, IsSettled, SettlesAt, added_at}
 use Rattle.op_use.specs.Server.{is_under}
 use Rattle.op_use.specs.Zone.{is_owned}
 use Rattle.op_use.specs.declared.apply.outcome.Outcome.{Outcome}
@@ -33,53 +33,12 @@ Map = BTreeMap RrKey SetValue
 abbrev Change : Type 0
 Change = Option (Option SetValue)
 
--- ---- the keys of the owners that updates name
-
-module _ (rs : List (Record RData)) (r : Record RData) (all : List (Record RData)) (grown : rs ++ r ∷ [] ≡ all) where
-  owner_last : (q : RrKey) → names_owner all q ≡ (names_owner rs q || is_owned r.name q)
-  owner_last q = ap (λ us. names_owner us q) (sym grown)
-      ∙ list_any-append (λ (x : Record RData). is_owned x.name q) rs (r ∷ [])
-      ∙ ap (λ b. names_owner rs q || b) (or-false (is_owned r.name q))
-
-  set_last : (q : RrKey) → names_set all q ≡ (names_set rs q || is_under r q)
-  set_last q = ap (λ us. names_set us q) (sym grown) ∙ list_any-append (λ (x : Record RData). is_under x q) rs (r ∷ [])
-      ∙ ap (λ b. names_set rs q || b) (or-false (is_under r q))
-
-  -- an owner that was named before
-  pub named_again : (m : Map) (ks : List RrKey) → NamesKeys rs m ks
-      → ((q : RrKey) → is_owned r.name q ≡ true → names_owner rs q ≡ true) → NamesKeys all m ks
-  named_again m ks h before q = h q ∙ ap (λ b. b && is_some (tree.get key_cmp m q))
-      (sym (owner_last q ∙ again (names_owner rs q) (is_owned r.name q) (before q))) where
-        again : (a b : Bool) → (b ≡ true → a ≡ true) → (a || b) ≡ a
-        again true b h = refl
-        again false true h = sym (h refl)
-        again false false h = refl
-
-  pub still_named : (q : RrKey) → names_owner rs q ≡ true → names_owner all q ≡ true
-  still_named q h = owner_last q ∙ ap (λ b. b || is_owned r.name q) h
-
-  -- or one whose keys come
-  pub named_next : (m : Map) (ks : List RrKey) → NamesKeys rs m ks
-      → NamesKeys all m (ks ++ filter (λ k. is_owned r.name k) (tree.keys m))
-  named_next m ks h q = list_any-append (λ k. eq_by_cmp key_cmp k q) ks (filter (λ k. is_owned r.name k) (tree.keys m))
-      ∙ (λ i. h q i || owned_key r.name q m i)
-      ∙ either (names_owner rs q) (is_owned r.name q) (is_some (tree.get key_cmp m q))
-      ∙ ap (λ b. b && is_some (tree.get key_cmp m q)) (sym (owner_last q)) where
-        either : (a o s : Bool) → ((a && s) || (o && s)) ≡ ((a || o) && s)
-        either true o true = refl
-        either true true false = refl
-        either true false false = refl
-        either false o s = refl
-
-  -- an owner that is looked at is one of those that are named
-  pub seen_next : (q k o : RrKey) (before after : Bool) → o ≡ key_of r.name types.ZERO
-      → after ≡ cond (eq_by_cmp key_cmp o k) true before → after ≡ true → same_lower k.name q.name ≡ true
-      → (before ≡ true → names_owner rs q ≡ true) → names_owner all q ≡ true
-  seen_next q k o before after own is h same more = by (eq_by_cmp key_cmp o k) refl (sym is ∙ h) where
-    by : (b : Bool) → eq_by_cmp key_cmp o k ≡ b → cond b true before ≡ true → names_owner all q ≡ true
-    by true e t = owner_last q ∙ ap (λ b. names_owner rs q || b) (ap (λ (x : RrKey). same_lower x.name q.name)
-        (sym own ∙ same_key o k e) ∙ same) ∙ or-true (names_owner rs q)
-    by false e t = still_named q (more t)
+-- whether updates name a set, with one update more
+set_last : (rs : List (Record RData)) (r : Record RData) (all : List (Record RData)) → rs ++ r ∷ [] ≡ all → (q : RrKey)
+    → names_set all q ≡ (names_set rs q || is_under r q)
+set_last rs r all grown q = ap (λ us. names_set us q) (sym grown)
+    ∙ list_any-append (λ (x : Record RData). is_under x q) rs (r ∷ [])
+    ∙ ap (λ b. names_set rs q || b) (or-false (is_under r q))
 
 -- ---- the sets that updates name, one after the other
 

@@ -5,9 +5,10 @@ use Rattle.base.specs.declared.dns_class.DNSClass.{DNSClass}
 use Rattle.base.specs.declared.rr_key.RrKey.{RrKey}
 use Rattle.base_data.specs.declared.rdata.RData.{RData}
 use Rattle.op.specs.declared.response_code.ResponseCode.TheVariants.{NoError}
-use Rattle.op_use.specs.Applying.{IsApplied, KeepsSame, names_owner, records_in}
-use Rattle.op_use.specs.HeldZone.{HeldZone}
-use Rattle.op_use.specs.MapUpdates.{IsAfter, has_key, names_set}
+use Rattle.op_use.specs.Applying.{IsApplied, records_at, records_in}
+use Rattle.op_use.specs.HeldZone.{HeldZone, zone_held}
+use Rattle.op_use.specs.MapUpdates.{IsLeft, names_set}
+use Rattle.op_use.specs.Zone.{is_owned}
 use Rattle.op_use.specs.Server.{Sections}
 use Rattle.op_use.specs.declared.apply.Answer.TheVariants as answers
 use Rattle.op_use.specs.declared.apply.Answer.{Answer}
@@ -16,7 +17,8 @@ use Rattle.rr.specs.RecordSet.{SetValue}
 use Rattle.rr.specs.declared.record.Record.{Record}
 use Rattle.std.specs.BTreeMap as tree
 use Rattle.std.specs.BTreeMap.{BTreeMap}
-use Rattle.std.specs.Prelude.{Bool, List, None, false, Option, Some, is_some, true, unwrap_or, ◌&&◌, ◌≡◌, ◌≢◌, ◌⊎◌}
+use Rattle.std.specs.Borrow.{Bor}
+use Rattle.std.specs.Prelude.{[], Bool, List, None, Option, Some, Vec, false, is_some, map, true, unwrap_or, ◌&&◌, ◌≡◌, ◌≢◌, ◌⊎◌}
 
 -- a set that is added, or what is there
 abbrev pub added_at : Option SetValue → Option SetValue → Option SetValue
@@ -44,15 +46,42 @@ abbrev pub IsOutcome : Outcome → BTreeMap RrKey SetValue → Type 0
 IsOutcome o m = (q : RrKey)
     → FitsThere (tree.get key_cmp o.added q) (tree.get key_cmp o.changed q) (tree.get key_cmp m q)
 
--- a map by the outcome is the old one after the updates rs, in which a set of the same records is the same
-abbrev pub UpdatesTo : List (Record RData) → HeldZone → Outcome → Type 0
-UpdatesTo rs z o = (n : BTreeMap RrKey SetValue) → Installs o z.sets n
-    → IsAfter z.origin z.class rs z.sets n × KeepsSame z.sets n
+-- What an outcome adds and changes under a key leaves there what the updates rs of a zone do, but a set of the same
+-- records stays.
+pub record Leaves (rs : List (Record RData)) (z : HeldZone) (q : RrKey)
+    (added : Option SetValue) (changed : Option (Option SetValue)) : Type 0 where
+  pub fits : FitsThere added changed (tree.get key_cmp z.sets q)
+  pub left : IsLeft (zone_held z) rs q (tree.get key_cmp z.sets q)
+      (added_at added (unwrap_or changed (tree.get key_cmp z.sets q)))
+  pub kept : records_in (added_at added (unwrap_or changed (tree.get key_cmp z.sets q)))
+      ≡ records_at z.sets q
+      → added_at added (unwrap_or changed (tree.get key_cmp z.sets q)) ≡ tree.get key_cmp z.sets q
 
--- these are the keys of a map whose owners the updates rs name
-abbrev pub NamesKeys : List (Record RData) → BTreeMap RrKey SetValue → List RrKey → Type 0
-NamesKeys rs m ks = (q : RrKey)
-    → has_key q ks ≡ (names_owner rs q && is_some (tree.get key_cmp m q))
+-- the same of an outcome under each key
+abbrev pub UpdatesTo : List (Record RData) → HeldZone → Outcome → Type 0
+UpdatesTo rs z o = (q : RrKey) → Leaves rs z q (tree.get key_cmp o.added q) (tree.get key_cmp o.changed q)
+
+-- an outcome has nothing under a key
+abbrev pub HasNothing : Outcome → RrKey → Type 0
+HasNothing o q = (tree.get key_cmp o.added q ≡ None) × (tree.get key_cmp o.changed q ≡ None)
+
+-- the new outcome is the old one, and under an owner's keys leaves what the updates rs do
+pub record UpdatesOwner (owner : NameValue) (rs : List (Record RData)) (z : HeldZone) (old new : Outcome)
+    : Type 0 where
+  pub own : (q : RrKey) → is_owned owner q ≡ true
+      → Leaves rs z q (tree.get key_cmp new.added q) (tree.get key_cmp new.changed q)
+  pub others : (q : RrKey) → is_owned owner q ≡ false
+      → (tree.get key_cmp new.added q ≡ tree.get key_cmp old.added q)
+      × (tree.get key_cmp new.changed q ≡ tree.get key_cmp old.changed q)
+
+-- lent records
+abbrev pub each : List (Bor (Record RData)) → List (Record RData)
+each rs = map (λ r. r.now) rs
+
+-- the updates of an owner, where there are some
+abbrev pub updates_of : {A : Type 0} → Option (Vec (Bor (Record RData)) A) → List (Record RData)
+updates_of (Some rs) = each rs.items
+updates_of None = []
 
 -- what stands under a key by an outcome is what it was, where the records are those of now, and else what stands now
 abbrev pub IsSettled : Option SetValue → Option SetValue → Option SetValue → Type 0

@@ -1,58 +1,63 @@
 //! The last step: updates are carried out beside the zone (RFC 2136, 3.4.2), and what they make of it is found.
 
 ghost use Rattle.base.specs.RrKey.{key_cmp};
+ghost use Rattle.base.specs.names.NameOrder.{lower_cmp};
 ghost use Rattle.base.specs.declared.rr_key.RrKey.{RrKey as Key};
-ghost use Rattle.op_use.specs.Applying.{IsZoneMap};
+ghost use Rattle.base_data.specs.declared.rdata.RData.{RData};
+ghost use Rattle.op_use.specs.Applying.{IsZoneMap, names_owner};
 ghost use Rattle.op_use.specs.MapUpdates.{has_key};
-ghost use Rattle.op_use.specs.Outcome.{IsOutcome, NamesKeys, Settles, UpdatesTo};
+ghost use Rattle.op_use.specs.Outcome.{HasNothing, Settles, UpdatesOwner, UpdatesTo, each, updates_of};
+ghost use Rattle.op_use.specs.Zone.{is_owned};
+ghost use Rattle.rr.specs.declared.record.Record.{Record as Entry};
 ghost use Rattle.std.specs.BTreeMap.{get};
+ghost use Rattle.std.specs.List.{filter};
 ghost use Rattle.std.specs.Prelude.{IfOk, IsTrue, None, OnOk, Some, cond, is_some, true, ◌↔◌, ◌≡◌};
 
 use crate::apply::changing_zone::ChangingZone;
 use crate::apply::current_set::CurrentSet;
 use crate::apply::outcome::Outcome;
 use crate::apply::zone::{Zone, key_of, keys_of};
-use base::{RecordType, RrKey};
+use base::{LowerName, Name, RrKey};
 use rr::{Record, RecordSet};
 use std::alloc::{AllocError, Global};
-use std::collections::{BTreeMap, BTreeSet};
+use std::collections::BTreeMap;
 
 impl<'a> Zone<'a> {
-    /// What these updates make of the zone's sets. A set whose records are the same after them stays, in every field:
-    /// its TTL, its serial and the spelling of its owner may have changed on the way.
+    /// What these updates make of the zone's sets, one owner after the other, since an update looks at its own owner's
+    /// sets alone. A set whose records are the same after them stays, in every field: its TTL, its serial and the
+    /// spelling of its owner may have changed on the way.
     pub(crate) fn outcome(&self, entries: &[Record]) -> Result<Outcome, AllocError>
-        ensures stays { IfOk result (λ o. IsOutcome o self.now.sets) }
-        ensures updated { IfOk result (λ o. UpdatesTo entries.now self.now o) }
+        ensures { IfOk result (λ o. UpdatesTo entries.now self.now o) }
     {
         let alloc = self.origin.allocator();
-        let keys = self.named_keys(alloc, entries)?;
-        let mut part = ChangingZone::open(alloc, self, keys.as_slice())?;
-        part.update(entries)?;
-        let sets = part.into_sets();
+        let mut owners = by_owner(alloc, entries)?;
         let mut outcome = Outcome {
             added: BTreeMap::new(alloc),
-            changed: gone(alloc, keys.as_slice(), &sets)?,
+            changed: BTreeMap::new(alloc),
         };
-        self.settle(sets, entries, &mut outcome)?;
+        while let Some((owner, entries)) = owners.pop_first() {
+            self.update_owner(owner.as_name(), entries.as_slice(), &mut outcome)?;
+        }
         Ok(outcome)
     }
 
-    /// The keys that the zone has of the owners that updates name.
-    fn named_keys(&self, alloc: Global, entries: &[Record]) -> Result<Vec<RrKey>, AllocError>
-        ensures { IfOk result (λ ks. NamesKeys entries.now self.now.sets ks.items) }
+    /// Has what updates of one owner make of its sets in the outcome.
+    fn update_owner(
+        &self,
+        owner: &Name,
+        entries: &[&Record],
+        outcome: &mut Outcome,
+    ) -> Result<(), AllocError>
+        requires names { (q : Key) → names_owner (each entries.now) q ≡ true → is_owned owner.now q ≡ true }
+        requires new { (q : Key) → is_owned owner.now q ≡ true → HasNothing outcome.old q }
+        ensures { OnOk result (UpdatesOwner owner.now (each entries.now) self.now outcome.old outcome.new) }
     {
-        let mut seen = BTreeSet::new(alloc);
-        let mut keys = Vec::new(alloc);
-        for entry in entries {
-            let owner = key_of(&entry.name, RecordType::ZERO)?;
-            if seen.contains(&owner) {
-                continue;
-            }
-            seen.insert(owner)?;
-            let mut more = keys_of(self.sets, &entry.name)?;
-            keys.append(&mut more)?;
-        }
-        Ok(keys)
+        let keys = keys_of(self.sets, owner)?;
+        let mut part = ChangingZone::open(self, keys.as_slice())?;
+        part.update(entries)?;
+        let sets = part.into_sets();
+        mark_gone(keys.as_slice(), &sets, &mut outcome.changed)?;
+        self.settle(sets, entries, outcome)
     }
 
     /// Has each set that updates name, of those that stand now, in the outcome, unless its records are the same as in
@@ -60,14 +65,13 @@ impl<'a> Zone<'a> {
     fn settle(
         &self,
         mut now: BTreeMap<RrKey, CurrentSet<'a>>,
-        entries: &[Record],
+        entries: &[&Record],
         outcome: &mut Outcome,
     ) -> Result<(), AllocError>
         requires fits { IsZoneMap self.now.class now }
-        requires new { (q : Key) → is_some (get key_cmp now q) ≡ true
-            → (get key_cmp outcome.old.added q ≡ None) × (get key_cmp outcome.old.changed q ≡ None) }
+        requires new { (q : Key) → is_some (get key_cmp now q) ≡ true → HasNothing outcome.old q }
         ensures { OnOk result
-            (Settles entries.now self.now.sets now.entry outcome.old outcome.new) }
+            (Settles (each entries.now) self.now.sets now.entry outcome.old outcome.new) }
     {
         for entry in entries {
             let key = key_of(&entry.name, entry.record_type())?;
@@ -88,23 +92,45 @@ impl<'a> Zone<'a> {
     }
 }
 
-/// The keys whose sets stand no more, each without a set.
-fn gone(
+/// The updates of each owner, in their order.
+fn by_owner(
     alloc: Global,
+    entries: &[Record],
+) -> Result<BTreeMap<LowerName, Vec<&Record>>, AllocError>
+    ensures { IfOk result (λ owners. (q : Key) → updates_of (get lower_cmp owners q.name)
+        ≡ filter (λ (r : Entry RData). is_owned r.name q) entries.now) }
+{
+    let mut owners: BTreeMap<LowerName, Vec<&Record>> = BTreeMap::new(alloc);
+    for entry in entries {
+        let owner = LowerName::new(alloc, &entry.name).map_err(|_| AllocError)?;
+        if let Some(updates) = owners.get_mut(&owner) {
+            updates.push(entry)?;
+            continue;
+        }
+        let mut updates = Vec::new(alloc);
+        updates.push(entry)?;
+        owners.insert(owner, updates)?;
+    }
+    Ok(owners)
+}
+
+/// Notes each of these keys under which no set stands now, without a set.
+fn mark_gone(
     keys: &[RrKey],
     now: &BTreeMap<RrKey, CurrentSet<'_>>,
-) -> Result<BTreeMap<RrKey, Option<RecordSet>>, AllocError>
-    ensures { IfOk result (λ m. (q : Key) → get key_cmp m q
-        ≡ cond (has_key q keys.now) (cond (is_some (get key_cmp now.now q)) None (Some None)) None) }
+    changed: &mut BTreeMap<RrKey, Option<RecordSet>>,
+) -> Result<(), AllocError>
+    ensures { OnOk result ((q : Key) → get key_cmp changed.new q
+        ≡ cond (has_key q keys.now) (cond (is_some (get key_cmp now.now q))
+        (get key_cmp changed.old q) (Some None)) (get key_cmp changed.old q)) }
 {
-    let mut gone = BTreeMap::new(alloc);
     for key in keys {
         if now.contains_key(key) {
             continue;
         }
-        gone.insert(key.clone()?, None)?;
+        changed.insert(key.clone()?, None)?;
     }
-    Ok(gone)
+    Ok(())
 }
 
 /// Whether records are the same in every field, the letter case of their names too, and in this order.

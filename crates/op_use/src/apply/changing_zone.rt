@@ -39,14 +39,10 @@ impl<'a> Model for ChangingZone<'a> {
 
 impl<'a> ChangingZone<'a> {
     /// The sets of a zone under these keys, to be updated.
-    pub(crate) fn open(
-        alloc: Global,
-        zone: &Zone<'a>,
-        keys: &[RrKey],
-    ) -> Result<ChangingZone<'a>, AllocError>
+    pub(crate) fn open(zone: &Zone<'a>, keys: &[RrKey]) -> Result<ChangingZone<'a>, AllocError>
         ensures { IfOk result (λ part. Opens keys.now zone.now part) }
     {
-        let mut sets = BTreeMap::new(alloc);
+        let mut sets = BTreeMap::new(zone.origin.allocator());
         for key in keys {
             let Some(set) = zone.sets.get(key) else {
                 continue;

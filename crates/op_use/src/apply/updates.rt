@@ -2,6 +2,7 @@
 
 ghost use Rattle.op_use.specs.HeldZone.{zone_held};
 ghost use Rattle.op_use.specs.MapUpdates.{IsUpdated};
+ghost use Rattle.op_use.specs.Outcome.{each};
 ghost use Rattle.op_use.specs.Server.{OfAny, OfZone, is_needed as is_needed_in, use_of as the_use};
 ghost use Rattle.std.specs.Prelude.{IfOk, OnOk, [], ◌∷◌, ◌≡◌};
 
@@ -14,8 +15,8 @@ use std::alloc::AllocError;
 
 impl<'a> ChangingZone<'a> {
     /// Carries out the updates in their order, each as its class asks.
-    pub(crate) fn update(&mut self, entries: &[Record]) -> Result<(), AllocError>
-        ensures { OnOk result (IsUpdated entries.now self.old self.new) }
+    pub(crate) fn update(&mut self, entries: &[&Record]) -> Result<(), AllocError>
+        ensures { OnOk result (IsUpdated (each entries.now) self.old self.new) }
     {
         for entry in entries {
             match use_of(self.class, entry.dns_class) {

@@ -1,6 +1,8 @@
 use Rattle.op.specs.Message.{message_value}
+use Rattle.op_use.proofs.OutcomeSteps.{outcome_fits, outcome_is}
 use Rattle.op_use.proofs.WholeSteps.{applied_all, applied_fault, applied_not}
 use Rattle.op_use.proofs.apply.find_answer.Goals as goal
+use Rattle.op_use.specs.HeldZone.{HeldZone}
 use Rattle.op_use.specs.Outcome.{UpdatesTo}
 use Rattle.op_use.specs.Server.{sections_of}
 use Rattle.base_data.specs.declared.rdata.RData.{RData}
@@ -27,12 +29,13 @@ returns c =
     let s = sections_of (message_value c.args.message.now) in
     let origin = c.args.origin.now in
     let class = c.args.class in
-    let sets = c.args.sets.now in (
-      c.in_ok-outcome.ensures.stays,
+    let sets = c.args.sets.now in
+    let z : HeldZone = record { origin = origin; class = class; sets = sets } in
+    let updates : UpdatesTo s.updates z c.in_ok-outcome.outcome = subst (λ (rs : List (Record RData)).
+    UpdatesTo rs z c.in_ok-outcome.outcome) c.deref.ensures.value c.in_ok-outcome.ensures in (
+      outcome_fits s.updates z c.in_ok-outcome.outcome updates,
       λ new installs.
-          let both = subst (λ (rs : List (Record RData)). UpdatesTo rs
-          (record { origin = origin; class = class; sets = sets }) c.in_ok-outcome.outcome) c.deref.ensures.value
-          c.in_ok-outcome.ensures.updated new installs in
+          let both = outcome_is s.updates z c.in_ok-outcome.outcome updates new installs in
           applied_all origin class sets new s c.requires (sym c.is_supported.ensures ∙ c.if-not-is_supported.false)
           (sym c.in_ok-code.ensures ∙ c.in_default.is) both.0 both.1,
     )

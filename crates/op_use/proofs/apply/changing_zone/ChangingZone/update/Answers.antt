@@ -1,5 +1,5 @@
 use Rattle.op_use.proofs.ChangingSteps.{moves_so, none_updated, stays_so, updated_more}
-use Rattle.op_use.proofs.KeySets.{one_taken}
+use Rattle.op_use.proofs.KeySets.{one_lent}
 use Rattle.op_use.proofs.UpdateSteps.{nothing, takes}
 use Rattle.op_use.proofs.apply.changing_zone.ChangingZone.update.Goals as goal
 use Rattle.op_use.proofs.apply.changing_zone.ChangingZone.update.Goals.{in-OfAny+in_ok-delete-in-OfAny}
@@ -7,6 +7,7 @@ use Rattle.op_use.proofs.apply.changing_zone.ChangingZone.update.Goals.{in-OfNon
 use Rattle.op_use.proofs.apply.changing_zone.ChangingZone.update.Goals.{in-OfNothing, in-OfZone+in_ok-add-in-OfZone}
 use Rattle.op_use.proofs.apply.changing_zone.ChangingZone.update.Goals.{in-OfNone+in_ok-is_needed-in-OfNone+then-not-branch+in_ok-take_data-in-OfNone}
 use Rattle.op_use.specs.HeldZone.{HeldZone}
+use Rattle.op_use.specs.Outcome.{each}
 use Rattle.op_use.specs.MapUpdates.{IsUpdated, use_value}
 use Rattle.op_use.specs.Server.{use_of}
 use Rattle.rr.specs.SetUpdates.{without}
@@ -21,7 +22,7 @@ loop-entry-preserved c =
     let rs = c.args.entries.now in
     let z = c.args.self.now in
     let y = c.loop-entry.self in
-    let r = c.entry-item.result in
+    let r = c.entry-item.result.now in
     let one : IsUpdated (r ∷ []) y c.match-use_of.self = elim c.match-use_of.branch [
       | in-OfAny+in_ok-delete-in-OfAny w ↦ subst (λ (x : HeldZone). IsUpdated (r ∷ []) y x)
           (sym w.self-is) w.in_ok-delete-in-OfAny.ensures
@@ -44,8 +45,8 @@ loop-entry-preserved c =
           ∙ ap use_value w.in-OfNothing.is)) refl)
     ] in
     subst (λ us. IsUpdated us z c.match-use_of.self)
-    (one_taken rs c.loop-entry.entry-index r c.loop-entry-test.true c.entry-item.is)
-    (updated_more (take c.loop-entry.entry-index rs) (r ∷ []) z y c.match-use_of.self c.loop-entry.invariant one)
+    (one_lent rs c.loop-entry.entry-index c.entry-item.result c.loop-entry-test.true c.entry-item.is)
+    (updated_more (each (take c.loop-entry.entry-index rs)) (r ∷ []) z y c.match-use_of.self c.loop-entry.invariant one)
 
 pub returns-in_err-delete-in-OfAny : goal.returns-in_err-delete-in-OfAny
 returns-in_err-delete-in-OfAny c =
@@ -65,9 +66,9 @@ returns-in_err-add-in-OfZone c =
     rw p.1 tt
 
 pub delete-requires : goal.delete-requires
-delete-requires c = ap (λ (x : HeldZone). use_of x.class c.entry-item.result.dns_class) (sym c.self.view_is)
+delete-requires c = ap (λ (x : HeldZone). use_of x.class c.entry-item.result.now.dns_class) (sym c.self.view_is)
     ∙ sym c.use_of.ensures ∙ ap use_value c.in-OfAny.is
 
 pub add-requires : goal.add-requires
-add-requires c = ap (λ (x : HeldZone). use_of x.class c.entry-item.result.dns_class) (sym c.self.view_is)
+add-requires c = ap (λ (x : HeldZone). use_of x.class c.entry-item.result.now.dns_class) (sym c.self.view_is)
     ∙ sym c.use_of.ensures ∙ ap use_value c.in-OfZone.is

@@ -1,43 +1,53 @@
-use Rattle.base.specs.RrKey.{key_cmp}
-use Rattle.base.specs.declared.rr_key.RrKey.{RrKey}
+use Rattle.base.specs.names.NameOrder.{lowered}
 use Rattle.op_use.proofs.KeySets.{none_in}
-use Rattle.op_use.proofs.OutcomeSteps.{outcome_is}
+use Rattle.op_use.proofs.OutcomeSteps.{gathered_first, gathered_last, gathered_names, gathered_new, gathered_next}
 use Rattle.op_use.proofs.apply.zone.Zone.outcome.Goals as goal
-use Rattle.op_use.specs.Applying.{IsZoneMap}
+use Rattle.base.specs.names.Labels.{NameValue}
+use Rattle.base_data.specs.declared.rdata.RData.{RData}
+use Rattle.op_use.specs.Applying.{IsZoneMap, names_owner}
 use Rattle.op_use.specs.HeldZone.{HeldZone}
-use Rattle.op_use.specs.MapUpdates.{Opens, has_key}
-use Rattle.op_use.specs.Outcome.{Settles}
-use Rattle.rr.specs.RecordSet.{SetValue}
-use Rattle.std.proofs.Common.{Bool, List, None, Option, Some, ap, cond, false, is_some, refl, subst, true, ◌∙◌, ◌≡◌}
-use Rattle.std.specs.BTreeMap.{BTreeMap, get}
+use Rattle.op_use.specs.Outcome.{UpdatesOwner, each}
+use Rattle.op_use.specs.Zone.{is_owned}
+use Rattle.rr.specs.declared.record.Record.{Record}
+use Rattle.std.proofs.Common.{Bor, List, ap, subst, sym, ◌∙◌, ◌≡◌}
 
-pub settle-requires-clause-fits : goal.settle-requires-clause-fits
-settle-requires-clause-fits c =
-    subst (λ (z : HeldZone). IsZoneMap z.class c.into_sets-sets.result) c.in_ok-part.ensures.rest
-    (subst (λ (z : HeldZone). IsZoneMap z.class c.into_sets-sets.result) c.in_ok-update.ensures.rest
-    c.into_sets-sets.ensures.fits)
+pub loop-owner-init : goal.loop-owner-init
+loop-owner-init c = gathered_first c.args.entries.now c.args.self.now c.in_ok-owners.owners
+    (record { added = c.new.result; changed = c.new-2.result })
+    (subst (λ (y : HeldZone). IsZoneMap y.class y.sets) c.self.view_is c.self.invariant) c.in_ok-owners.ensures
+    (λ q. (none_in c.new.result q c.new.ensures.empty, none_in c.new-2.result q c.new-2.ensures.empty))
 
-pub settle-requires-clause-new : goal.settle-requires-clause-new
-settle-requires-clause-new c = λ q e. (
-  none_in c.new.result q c.new.ensures.empty,
-  c.in_ok-gone.ensures q ∙ ap (λ b. cond (has_key q c.as_slice-2.result.now) (cond b None (Some None)) None) e
-      ∙ by (has_key q c.as_slice-2.result.now),
-) where
-  by : (b : Bool) → ◌≡◌ {A = Option (Option SetValue)} (cond b None None) None
-  by true = refl
-  by false = refl
+pub update_owner-requires-clause-names : goal.update_owner-requires-clause-names
+update_owner-requires-clause-names c =
+    let n : NameValue = c.in-Some.owner in
+    let low : lowered n ≡ n = ap (λ ls. record n { labels = ls }) c.as_name.ensures.lower in
+    λ q e. ap (λ m. is_owned m q) c.as_name.ensures.value
+    ∙ gathered_names c.args.entries.now c.args.self.now n low c.in-Some.entries c.loop-owner.owners
+    c.pop_first.new.self c.loop-owner.outcome c.loop-owner.invariant c.in-Some.ensures.value q
+    (ap (λ (rs : List (Bor (Record RData))). names_owner (each rs) q) (sym c.as_slice.ensures.value) ∙ e)
+
+pub update_owner-requires-clause-new : goal.update_owner-requires-clause-new
+update_owner-requires-clause-new c =
+    let n : NameValue = c.in-Some.owner in
+    let low : lowered n ≡ n = ap (λ ls. record n { labels = ls }) c.as_name.ensures.lower in
+    λ q e. gathered_new c.args.entries.now c.args.self.now n low c.in-Some.entries c.loop-owner.owners
+    c.pop_first.new.self c.loop-owner.outcome c.loop-owner.invariant c.in-Some.ensures.value q
+    (ap (λ m. is_owned m q) (sym c.as_name.ensures.value) ∙ e)
+
+pub loop-owner-preserved : goal.loop-owner-preserved
+loop-owner-preserved c =
+    let n : NameValue = c.in-Some.owner in
+    let low : lowered n ≡ n = ap (λ ls. record n { labels = ls }) c.as_name.ensures.lower in
+    let z = c.args.self.now in
+    let done : UpdatesOwner n (each c.in-Some.entries.items) z c.loop-owner.outcome c.update_owner.new.outcome =
+    subst (λ (m : NameValue). UpdatesOwner m (each c.in-Some.entries.items) z c.loop-owner.outcome
+    c.update_owner.new.outcome) c.as_name.ensures.value
+    (subst (λ (rs : List (Bor (Record RData))). UpdatesOwner c.as_name.result.now (each rs) z c.loop-owner.outcome
+    c.update_owner.new.outcome) c.as_slice.ensures.value c.in_ok-update_owner.ensures) in
+    gathered_next c.args.entries.now z n low c.in-Some.entries c.loop-owner.owners c.pop_first.new.self
+    c.loop-owner.outcome c.loop-owner.invariant c.in-Some.ensures.value c.update_owner.new.outcome done
+    c.in-Some.ensures.updates.0
 
 pub returns : goal.returns
-returns c =
-    let z = c.args.self.now in
-    let both = outcome_is z c.in_ok-part.part c.update.new.self c.args.entries.now c.in_ok-keys.keys.items
-    (record { added = c.new.result; changed = c.in_ok-gone.field-0 }) c.settle.new.outcome
-    (subst (λ (y : HeldZone). IsZoneMap y.class y.sets) c.self.view_is c.self.invariant) c.in_ok-keys.ensures
-    (subst (λ (xs : List RrKey). Opens xs z c.in_ok-part.part) c.as_slice.ensures.value c.in_ok-part.ensures)
-    c.in_ok-update.ensures (λ q. none_in c.new.result q c.new.ensures.empty)
-    (λ q. c.in_ok-gone.ensures q ∙ (λ i. cond (has_key q (c.as_slice-2.ensures.value i))
-    (cond (is_some (get key_cmp (c.into_sets-sets.ensures.sets i) q)) None (Some None)) None))
-    (subst (λ (m : BTreeMap RrKey SetValue). Settles c.args.entries.now z.sets m
-    (record { added = c.new.result; changed = c.in_ok-gone.field-0 }) c.settle.new.outcome)
-    c.into_sets-sets.ensures.sets c.in_ok-settle.ensures) in
-    record { stays = both.0; updated = both.1 }
+returns c = gathered_last c.args.entries.now c.args.self.now c.loop-owner.owners c.loop-owner.outcome
+    (λ some. c.in_default.ensures.variant.1 some) c.loop-owner.invariant

@@ -1,9 +1,10 @@
 use Rattle.base.specs.RrKey.{key_cmp, key_of}
 use Rattle.base_data.specs.declared.rdata.RData.{RData}
-use Rattle.op_use.proofs.KeySets.{one_taken}
+use Rattle.op_use.proofs.KeySets.{one_lent}
 use Rattle.op_use.proofs.SettleSteps.{IsSettling, settling_added, settling_changed, settling_none, settling_same}
 use Rattle.op_use.proofs.apply.zone.Zone.settle.Goals as goal
 use Rattle.op_use.specs.HeldZone.{HeldZone}
+use Rattle.op_use.specs.Outcome.{each}
 use Rattle.rr.specs.declared.record.Record.{Record}
 use Rattle.std.proofs.Common.{List, Some, ap, refl, subst, sym, ◌∙◌}
 use Rattle.std.proofs.lemmas.Bool.{true≢false}
@@ -15,16 +16,16 @@ loop-entry-init c = λ q. (refl, (refl, refl))
 
 pub loop-entry-preserved-in_default : goal.loop-entry-preserved-in_default
 loop-entry-preserved-in_default c = settling_none _ _ _
-    (one_taken c.args.entries.now c.loop-entry.entry-index c.entry-item.result c.loop-entry-test.true c.entry-item.is)
+    (one_lent c.args.entries.now c.loop-entry.entry-index c.entry-item.result c.loop-entry-test.true c.entry-item.is)
     c.args.self.now.sets c.args.now c.loop-entry.now c.remove.new.self c.args.outcome.now c.loop-entry.outcome
-    c.in_ok-key.key (c.in_ok-key.ensures ∙ ap (key_of c.entry-item.result.name) c.record_type.ensures)
+    c.in_ok-key.key (c.in_ok-key.ensures ∙ ap (key_of c.entry-item.result.now.name) c.record_type.ensures)
     c.loop-entry.invariant c.remove.ensures.updates.0 c.requires.new (sym c.in_default.ensures.value)
 
 pub loop-entry-preserved-in_default-get : goal.loop-entry-preserved-in_default-get
 loop-entry-preserved-in_default-get c = settling_added _ _ _
-    (one_taken c.args.entries.now c.loop-entry.entry-index c.entry-item.result c.loop-entry-test.true c.entry-item.is)
+    (one_lent c.args.entries.now c.loop-entry.entry-index c.entry-item.result c.loop-entry-test.true c.entry-item.is)
     c.args.self.now.sets c.args.now c.loop-entry.now c.remove.new.self c.args.outcome.now c.loop-entry.outcome
-    c.in_ok-key.key (c.in_ok-key.ensures ∙ ap (key_of c.entry-item.result.name) c.record_type.ensures)
+    c.in_ok-key.key (c.in_ok-key.ensures ∙ ap (key_of c.entry-item.result.now.name) c.record_type.ensures)
     c.loop-entry.invariant c.remove.ensures.updates.0 c.requires.new c.in_ok-set.set
     (sym c.in-Some.ensures.value ∙ ap Some (sym c.in_ok-set.ensures)) c.args.self.now.class c.insert.new.self
     c.requires.fits (ap (λ (z : HeldZone). get key_cmp z.sets c.in_ok-key.key) (sym c.self.view_is)
@@ -32,9 +33,9 @@ loop-entry-preserved-in_default-get c = settling_added _ _ _
 
 pub loop-entry-preserved-then-are_same : goal.loop-entry-preserved-then-are_same
 loop-entry-preserved-then-are_same c = settling_same _ _ _
-    (one_taken c.args.entries.now c.loop-entry.entry-index c.entry-item.result c.loop-entry-test.true c.entry-item.is)
+    (one_lent c.args.entries.now c.loop-entry.entry-index c.entry-item.result c.loop-entry-test.true c.entry-item.is)
     c.args.self.now.sets c.args.now c.loop-entry.now c.remove.new.self c.args.outcome.now c.loop-entry.outcome
-    c.in_ok-key.key (c.in_ok-key.ensures ∙ ap (key_of c.entry-item.result.name) c.record_type.ensures)
+    c.in_ok-key.key (c.in_ok-key.ensures ∙ ap (key_of c.entry-item.result.now.name) c.record_type.ensures)
     c.loop-entry.invariant c.remove.ensures.updates.0 c.requires.new c.in_ok-set.set
     (sym c.in-Some.ensures.value ∙ ap Some (sym c.in_ok-set.ensures)) c.in-Some-get.was.now
     (ap (λ (z : HeldZone). get key_cmp z.sets c.in_ok-key.key) (sym c.self.view_is) ∙ sym c.in-Some-get.ensures.value)
@@ -42,9 +43,9 @@ loop-entry-preserved-then-are_same c = settling_same _ _ _
 
 pub loop-entry-preserved : goal.loop-entry-preserved
 loop-entry-preserved c = settling_changed _ _ _
-    (one_taken c.args.entries.now c.loop-entry.entry-index c.entry-item.result c.loop-entry-test.true c.entry-item.is)
+    (one_lent c.args.entries.now c.loop-entry.entry-index c.entry-item.result c.loop-entry-test.true c.entry-item.is)
     c.args.self.now.sets c.args.now c.loop-entry.now c.remove.new.self c.args.outcome.now c.loop-entry.outcome
-    c.in_ok-key.key (c.in_ok-key.ensures ∙ ap (key_of c.entry-item.result.name) c.record_type.ensures)
+    c.in_ok-key.key (c.in_ok-key.ensures ∙ ap (key_of c.entry-item.result.now.name) c.record_type.ensures)
     c.loop-entry.invariant c.remove.ensures.updates.0 c.requires.new c.in_ok-set.set
     (sym c.in-Some.ensures.value ∙ ap Some (sym c.in_ok-set.ensures)) c.in-Some-get.was.now
     c.insert-in-loop-entry.new.self
@@ -55,4 +56,4 @@ loop-entry-preserved c = settling_changed _ _ _
 pub returns : goal.returns
 returns c = λ q. (subst (λ (rs : List (Record RData)).
     IsSettling rs c.args.self.now.sets c.args.now c.loop-entry.now c.args.outcome.now c.loop-entry.outcome)
-    (take_all c.loop-entry.entry-index c.args.entries.now c.loop-entry-test.false) c.loop-entry.invariant q).1
+    (ap each (take_all c.loop-entry.entry-index c.args.entries.now c.loop-entry-test.false)) c.loop-entry.invariant q).1
