@@ -7,7 +7,7 @@ use Rattle.base.specs.declared.record_type.RecordType.TheVariants as types
 use Rattle.base.specs.declared.dns_class.DNSClass.{DNSClass}
 use Rattle.base.specs.declared.rr_key.RrKey.{RrKey}
 use Rattle.base_data.specs.declared.rdata.RData.{RData}
-use Rattle.op_use.proofs.KeySets.{emptied}
+use Rattle.op_use.proofs.KeySets.{emptied, owned_key}
 use Rattle.op_use.proofs.MapZones.{get_zone}
 use Rattle.op_use.proofs.OwnerKeys.{owned_is}
 use Rattle.op_use.proofs.OwnerParts.{Agrees, of_owner, own_beside, own_named, own_updates, owns_named, records_same, records_stay}
@@ -30,6 +30,7 @@ use Rattle.std.proofs.lemmas.List.{append-nil, map-append}
 use Rattle.std.specs.BTreeMap as tree
 use Rattle.std.specs.BTreeMap.{BTreeMap, is_at}
 use Rattle.std.specs.Borrow.{Bor}
+use Rattle.std.specs.List.{filter}
 use Rattle.std.specs.Map.{lookup}
 use Rattle.std.specs.Ordering.{eq_by_cmp, is_eq}
 use Rattle.std.specs.declared.cmp.Ordering.TheVariants.{Equal, Greater, Less}
@@ -146,18 +147,25 @@ module _ (origin owner : NameValue) (class : DNSClass) (rs : List (Record RData)
 
 -- ---- what an outcome has of one owner
 
-module _ (owner : NameValue) (z part now : HeldZone) (rs : List (Record RData)) (ks : List RrKey)
-    (first mid : Outcome) (before : IsZoneMap z.class z.sets)
+module _ (owner : NameValue) (y z part now : HeldZone) (rs : List (Record RData)) (ks xs ws : List RrKey)
+    (stood_now : BTreeMap RrKey SetValue) (first mid : Outcome) (is : y ≡ z) (fits : IsZoneMap y.class y.sets)
     (names : (q : RrKey) → names_owner rs q ≡ true → is_owned owner q ≡ true)
-    (keys : (q : RrKey) → has_key q ks ≡ (is_owned owner q && is_some (tree.get key_cmp z.sets q)))
-    (opens : Opens ks z part) (updated : IsUpdated rs part now)
     (new : (q : RrKey) → is_owned owner q ≡ true → HasNothing first q)
+    (are : ks ≡ filter (λ k. is_owned owner k) (tree.keys y.sets)) (xs_are : xs ≡ ks) (ws_are : ws ≡ ks)
+    (opens : Opens xs z part) (updated : IsUpdated rs part now) (now_is : stood_now ≡ now.sets)
     (added : mid.added ≡ first.added)
     (gone : (q : RrKey) → tree.get key_cmp mid.changed q
-    ≡ cond (has_key q ks) (cond (is_some (tree.get key_cmp now.sets q)) (tree.get key_cmp first.changed q) (Some None))
+    ≡ cond (has_key q ws) (cond (is_some (tree.get key_cmp stood_now q)) (tree.get key_cmp first.changed q) (Some None))
     (tree.get key_cmp first.changed q)) where
+  before : IsZoneMap z.class z.sets
+  before = subst (λ (x : HeldZone). IsZoneMap x.class x.sets) is fits
+
+  keys : (q : RrKey) → has_key q ks ≡ (is_owned owner q && is_some (tree.get key_cmp z.sets q))
+  keys q = ap (has_key q) are ∙ owned_key owner q y.sets
+      ∙ ap (λ (x : HeldZone). is_owned owner q && is_some (tree.get key_cmp x.sets q)) is
+
   opened : (q : RrKey) → tree.get key_cmp part.sets q ≡ cond (is_owned owner q) (tree.get key_cmp z.sets q) None
-  opened q = opens.holds q ∙ ap (λ b. cond b (tree.get key_cmp z.sets q) None) (keys q)
+  opened q = opens.holds q ∙ ap (λ b. cond b (tree.get key_cmp z.sets q) None) (ap (has_key q) xs_are ∙ keys q)
       ∙ by (is_owned owner q) (tree.get key_cmp z.sets q) where
         by : (b : Bool) (o : Option SetValue) → cond (b && is_some o) o None ≡ cond b o None
         by true (Some s) = refl
@@ -178,13 +186,14 @@ module _ (owner : NameValue) (z part now : HeldZone) (rs : List (Record RData)) 
       × (tree.get key_cmp mid.changed q ≡ noted (tree.get key_cmp z.sets q) (tree.get key_cmp now.sets q))
   mid_at q own = (
     ap (λ (m : BTreeMap RrKey SetValue). tree.get key_cmp m q) added ∙ (new q own).0,
-    gone q ∙ (λ i. cond ((keys q ∙ ap (λ b. b && is_some (tree.get key_cmp z.sets q)) own) i)
-        (cond (is_some (tree.get key_cmp now.sets q)) ((new q own).1 i) (Some None)) ((new q own).1 i)),
+    gone q ∙ (λ i. cond ((ap (has_key q) ws_are ∙ keys q ∙ ap (λ b. b && is_some (tree.get key_cmp z.sets q)) own) i)
+        (cond (is_some (tree.get key_cmp (now_is i) q)) ((new q own).1 i) (Some None)) ((new q own).1 i)),
   )
 
   -- what stands now has nothing in the outcome yet
-  pub new_now : (q : RrKey) → is_some (tree.get key_cmp now.sets q) ≡ true → HasNothing mid q
-  new_now q h =
+  pub new_now : (q : RrKey) → is_some (tree.get key_cmp stood_now q) ≡ true → HasNothing mid q
+  new_now q stands =
+      let h = ap (λ (m : BTreeMap RrKey SetValue). is_some (tree.get key_cmp m q)) (sym now_is) ∙ stands in
       let own = owned_now z.origin owner z.class rs z.sets part.sets now.sets names opened after q h in
       let at = mid_at q own in (
         at.0,
@@ -195,7 +204,10 @@ module _ (owner : NameValue) (z part now : HeldZone) (rs : List (Record RData)) 
         none true = refl
         none false = refl
 
-  module _ (last : Outcome) (settles : Settles rs z.sets now.sets mid last) where
+  module _ (last : Outcome) (settled_now : Settles rs z.sets stood_now mid last) where
+    settles : Settles rs z.sets now.sets mid last
+    settles = subst (λ (m : BTreeMap RrKey SetValue). Settles rs z.sets m mid last) now_is settled_now
+
     settles_at : (q : RrKey) → is_owned owner q ≡ true
         → SettlesAt (names_set rs q && is_some (tree.get key_cmp now.sets q))
         (tree.get key_cmp z.sets q) (tree.get key_cmp now.sets q) None (tree.get key_cmp last.added q)
@@ -231,8 +243,8 @@ module _ (owner : NameValue) (z part now : HeldZone) (rs : List (Record RData)) 
           (settles q) in (
             same.0 ∙ ap (λ (m : BTreeMap RrKey SetValue). tree.get key_cmp m q) added,
             same.1 ∙ gone q ∙ ap (λ b. cond b
-                (cond (is_some (tree.get key_cmp now.sets q)) (tree.get key_cmp first.changed q) (Some None))
-                (tree.get key_cmp first.changed q)) (keys q ∙ ap (λ b. b && is_some (tree.get key_cmp z.sets q)) free),
+                (cond (is_some (tree.get key_cmp stood_now q)) (tree.get key_cmp first.changed q) (Some None))
+                (tree.get key_cmp first.changed q)) (ap (has_key q) ws_are ∙ keys q ∙ ap (λ b. b && is_some (tree.get key_cmp z.sets q)) free),
           );
     }
 

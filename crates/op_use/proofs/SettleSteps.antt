@@ -1,17 +1,14 @@
 -- Steps of finding what updates make of a zone, and of putting it into the zone.
-use Rattle.base.specs.names.NameOrder.{same_lower}
-use Rattle.base.specs.RrKey.{key_cmp, key_of}
+use Rattle.base.specs.RrKey.{key_cmp}
 use Rattle.base.specs.declared.dns_class.DNSClass.{DNSClass}
-use Rattle.base.specs.declared.record_type.RecordType.TheVariants as types
 use Rattle.base.specs.declared.rr_key.RrKey.{RrKey}
 use Rattle.base_data.specs.declared.rdata.RData.{RData}
-use Rattle.op_use.proofs.KeySets.{Sets, each_key, owned_key, put_beside, put_here}
-use Rattle.op_use.proofs.ZoneSteps.{same_key, tied}
-use Rattle.op_use.specs.Applying.{IsZoneMap, names_owner, records_in}
+use Rattle.op_use.proofs.KeySets.{Sets, each_key, put_beside, put_here}
+use Rattle.op_use.proofs.ZoneSteps.{tied}
+use Rattle.op_use.specs.Applying.{IsZoneMap, records_in}
 use Rattle.op_use.specs.MapUpdates.{has_key, names_set}
 use Rattle.op_use.specs.Outcome.{FitsThere, IsSettled, SettlesAt, added_at}
 use Rattle.op_use.specs.Server.{is_under}
-use Rattle.op_use.specs.Zone.{is_owned}
 use Rattle.op_use.specs.declared.apply.outcome.Outcome.{Outcome}
 use Rattle.rr.specs.Record.{record_key}
 use Rattle.rr.specs.RecordSet.{SetValue}
@@ -22,7 +19,6 @@ use Rattle.std.proofs.lemmas.Bool.{true≢false}
 use Rattle.std.proofs.lemmas.List.Folds.{list_any-append}
 use Rattle.std.specs.BTreeMap as tree
 use Rattle.std.specs.BTreeMap.{BTreeMap}
-use Rattle.std.specs.List.{filter}
 use Rattle.std.specs.Ordering.{eq_by_cmp}
 use Rattle.std.specs.Prelude.{Bool, List, None, Option, Some, [], cond, false, is_some, true, unwrap_or, ◌&&◌, ◌++◌}
 use Rattle.std.specs.Prelude.{◌||◌, ◌∷◌, ◌≡◌, ◌≢◌}

@@ -2,7 +2,7 @@ use Rattle.base.specs.names.NameOrder.{lower_cmp, lowered}
 use Rattle.op_use.proofs.KeySets.{one_taken}
 use Rattle.op_use.proofs.OutcomeSteps.{grouped_beside, grouped_first}
 use Rattle.op_use.proofs.apply.changes.by_owner.Goals as goal
-use Rattle.std.proofs.Common.{Some, [], ap, cond, refl, rules, subst, sym, ◌++◌, ◌∙◌, ◌∷◌, ◌≡◌}
+use Rattle.std.proofs.Common.{Some, ap, cond, refl, rules, sym, ◌∙◌, ◌≡◌}
 use Rattle.std.specs.BTreeMap.{Updates, get}
 use Rattle.std.specs.Ordering.{eq_by_cmp}
 
