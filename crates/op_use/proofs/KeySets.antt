@@ -42,7 +42,8 @@ one_taken xs i x h e = ap (λ y. take i xs ++ y ∷ []) e ∙ sym (take_more xs 
 -- the same of what is lent
 pub one_lent : (rs : List (Bor (Record RData))) (i : ℕ) (r : Bor (Record RData)) → i < length rs
     → r ≡ slice_index_or rs i r → each (take i rs) ++ r.now ∷ [] ≡ each (take (i + 1) rs)
-one_lent rs i r h e = sym (map-append (λ (x : Bor (Record RData)). x.now) (take i rs) (r ∷ [])) ∙ ap each (one_taken rs i r h e)
+one_lent rs i r h e = sym (map-append (λ (x : Bor (Record RData)). x.now) (take i rs) (r ∷ []))
+    ∙ ap each (one_taken rs i r h e)
 
 -- no item is left
 pub emptied : {X : Type 0} (xs : List X) → (0 < length xs → false ≡ true) → xs ≡ []

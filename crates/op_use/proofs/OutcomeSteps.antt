@@ -9,13 +9,17 @@ use Rattle.base.specs.declared.rr_key.RrKey.{RrKey}
 use Rattle.base_data.specs.declared.rdata.RData.{RData}
 use Rattle.op_use.proofs.KeySets.{emptied, owned_key}
 use Rattle.op_use.proofs.MapZones.{get_zone}
+use Rattle.op_use.proofs.ZoneSteps.{equal_of}
 use Rattle.op_use.proofs.OwnerKeys.{owned_is}
-use Rattle.op_use.proofs.OwnerParts.{Agrees, of_owner, own_beside, own_named, own_updates, owns_named, records_same, records_stay}
+use Rattle.op_use.proofs.OwnerParts.{Agrees, of_owner, own_beside, own_named, own_updates, owns_named, records_same}
+use Rattle.op_use.proofs.OwnerParts.{records_stay}
 use Rattle.op_use.specs.AppliedRecords.{records_after}
-use Rattle.op_use.specs.Applying.{IsZoneMap, IsZoneSet, KeepsSame, data_in_set, names_owner, records_at, records_in, zone_of_map}
+use Rattle.op_use.specs.Applying.{IsZoneMap, IsZoneSet, KeepsSame, data_in_set, names_owner, records_at, records_in}
+use Rattle.op_use.specs.Applying.{zone_of_map}
 use Rattle.op_use.specs.HeldZone.{HeldZone, zone_held}
 use Rattle.op_use.specs.MapUpdates.{IsAfter, IsLeft, IsUpdated, Opens, has_key, names_set}
-use Rattle.op_use.specs.Outcome.{FitsThere, HasNothing, Installs, IsOutcome, IsSettled, Leaves, Settles, SettlesAt, UpdatesOwner, UpdatesTo}
+use Rattle.op_use.specs.Outcome.{FitsThere, HasNothing, Installs, IsOutcome, IsSettled, Leaves, Settles, SettlesAt}
+use Rattle.op_use.specs.Outcome.{UpdatesOwner, UpdatesTo}
 use Rattle.op_use.specs.Outcome.{added_at, each, outcome_at, updates_of}
 use Rattle.op_use.specs.Zone.{is_owned}
 use Rattle.op_use.specs.declared.apply.outcome.Outcome.{Outcome}
@@ -24,7 +28,7 @@ use Rattle.rr.specs.SetUpdates.{last_ttl}
 use Rattle.rr.specs.declared.record.Record.{Record}
 use Rattle.std.proofs.Common.{ap, inl, inr, refl, subst, sym, ◌∙◌, ◌⊎◌}
 use Rattle.std.proofs.Math.Bool.{and-false}
-use Rattle.std.proofs.lemmas.Bool.{true≢false}
+use Rattle.std.proofs.lemmas.Bool.{false_from_ne_true, true≢false}
 use Rattle.std.proofs.lemmas.List.Elements.{filter-append}
 use Rattle.std.proofs.lemmas.List.{append-nil, map-append}
 use Rattle.std.specs.BTreeMap as tree
@@ -33,9 +37,8 @@ use Rattle.std.specs.Borrow.{Bor}
 use Rattle.std.specs.List.{filter}
 use Rattle.std.specs.Map.{lookup}
 use Rattle.std.specs.Ordering.{eq_by_cmp, is_eq}
-use Rattle.std.specs.declared.cmp.Ordering.TheVariants.{Equal, Greater, Less}
-use Rattle.std.specs.declared.cmp.Ordering.{Ordering}
-use Rattle.std.specs.Prelude.{Bool, List, None, Option, Some, Vec, [], cond, false, is_some, length, option_map, true, unwrap_or}
+use Rattle.std.specs.Prelude.{Bool, List, None, Option, Some, Vec, [], cond, false, is_some, length, option_map, true}
+use Rattle.std.specs.Prelude.{unwrap_or}
 use Rattle.std.specs.Prelude.{◌&&◌, ◌++◌, ◌<◌, ◌∷◌, ◌≡◌, ◌≢◌}
 
 -- ---- a set that is settled
@@ -133,11 +136,9 @@ module _ (origin owner : NameValue) (class : DNSClass) (rs : List (Record RData)
   owned_now q h = by (is_owned owner q) refl (tree.get key_cmp now q) refl h where
     none_there : is_owned owner q ≡ false → records_at now q ≡ []
     none_there free = (after q).exact
-        ∙ records_stay rs (zone_of_map origin class part) q (records_at part q) (unnamed (names_owner rs q) refl)
-        ∙ ap records_in (opened q ∙ ap (λ b. cond b (tree.get key_cmp m q) None) free) where
-          unnamed : (b : Bool) → names_owner rs q ≡ b → b ≡ false
-          unnamed true e = absurd (true≢false (sym (names q e) ∙ free))
-          unnamed false e = refl
+        ∙ records_stay rs (zone_of_map origin class part) q (records_at part q)
+        (false_from_ne_true _ (λ e. true≢false (sym (names q e) ∙ free)))
+        ∙ ap records_in (opened q ∙ ap (λ b. cond b (tree.get key_cmp m q) None) free)
 
     by : (b : Bool) → is_owned owner q ≡ b → (o : Option SetValue) → tree.get key_cmp now q ≡ o → is_some o ≡ true
         → b ≡ true
@@ -224,10 +225,6 @@ module _ (owner : NameValue) (y z part now : HeldZone) (rs : List (Record RData)
         (λ s e. (before q s e).filled) (λ e. some_settled _ _ _ _ _ _ (settles_at q own) e)
         (λ e. none_settled _ _ _ _ _ _ (settles_at q own) e)
 
-    unnamed : (q : RrKey) → is_owned owner q ≡ false → (b : Bool) → names_set rs q ≡ b → b ≡ false
-    unnamed q free true e = absurd (true≢false (sym (names q (owns_named rs q e)) ∙ free))
-    unnamed q free false e = refl
-
     pub updates_owner : UpdatesOwner owner rs z first last
     updates_owner = record {
       own = λ q own. record {
@@ -239,12 +236,14 @@ module _ (owner : NameValue) (y z part now : HeldZone) (rs : List (Record RData)
       others = λ q free.
           let same = subst (λ b. SettlesAt (b && is_some (tree.get key_cmp now.sets q)) (tree.get key_cmp z.sets q)
           (tree.get key_cmp now.sets q) (tree.get key_cmp mid.added q) (tree.get key_cmp last.added q)
-          (tree.get key_cmp mid.changed q) (tree.get key_cmp last.changed q)) (unnamed q free (names_set rs q) refl)
+          (tree.get key_cmp mid.changed q) (tree.get key_cmp last.changed q))
+          (false_from_ne_true _ (λ e. true≢false (sym (names q (owns_named rs q e)) ∙ free)))
           (settles q) in (
             same.0 ∙ ap (λ (m : BTreeMap RrKey SetValue). tree.get key_cmp m q) added,
             same.1 ∙ gone q ∙ ap (λ b. cond b
                 (cond (is_some (tree.get key_cmp stood_now q)) (tree.get key_cmp first.changed q) (Some None))
-                (tree.get key_cmp first.changed q)) (ap (has_key q) ws_are ∙ keys q ∙ ap (λ b. b && is_some (tree.get key_cmp z.sets q)) free),
+                (tree.get key_cmp first.changed q)) (ap (has_key q) ws_are ∙ keys q
+                ∙ ap (λ b. b && is_some (tree.get key_cmp z.sets q)) free),
           );
     }
 
@@ -306,12 +305,8 @@ module _ {A : Type 0} (rs : List (Record RData)) (z : HeldZone) where
   module _ (n : NameValue) (low : lowered n ≡ n) (us : Vec (Bor (Record RData)) A) (owners less : Owners A)
       (o : Outcome) (h : IsGathered owners o) (there : tree.get lower_cmp owners n ≡ Some us) where
     own_name : (q : RrKey) → is_owned n q ≡ true → n ≡ q.name
-    own_name q own = lower_cmp-exact n q.name (equal (lower_cmp n q.name)
-        (ap (λ m. is_eq (lower_cmp m q.name)) (sym low) ∙ sym (owned_is n q) ∙ own)) where
-          equal : (c : Ordering) → is_eq c ≡ true → c ≡ Equal
-          equal Less e = absurd cc
-          equal Equal e = refl
-          equal Greater e = absurd cc
+    own_name q own = lower_cmp-exact n q.name (equal_of (lower_cmp n q.name)
+        (ap (λ m. is_eq (lower_cmp m q.name)) (sym low) ∙ sym (owned_is n q) ∙ own))
 
     gathered_own : (q : RrKey) → is_owned n q ≡ true
         → IsGatheredAt rs z q (Some us) (tree.get key_cmp o.added q) (tree.get key_cmp o.changed q)
@@ -362,18 +357,18 @@ module _ {A : Type 0} (rs : List (Record RData)) (r : Record RData) (all : List 
       → (q : RrKey) → updates_of (tree.get lower_cmp more q.name) ≡ own_updates q all
   grouped_next us items puts q = by (is_owned r.name q) refl
       ∙ sym (filter-append (λ (x : Record RData). is_owned x.name q) rs (r ∷ [])) ∙ ap (own_updates q) grown where
-    more_is : (b : Bool) → is_owned r.name q ≡ b
-        → tree.get lower_cmp more q.name ≡ cond b (Some us) (tree.get lower_cmp owners q.name)
-    more_is b e = puts q.name ∙ ap (λ c. cond c (Some us) (tree.get lower_cmp owners q.name))
-        (sym (owned_is r.name q) ∙ e)
+        more_is : (b : Bool) → is_owned r.name q ≡ b
+            → tree.get lower_cmp more q.name ≡ cond b (Some us) (tree.get lower_cmp owners q.name)
+        more_is b e = puts q.name ∙ ap (λ c. cond c (Some us) (tree.get lower_cmp owners q.name))
+            (sym (owned_is r.name q) ∙ e)
 
-    by : (b : Bool) → is_owned r.name q ≡ b
-        → updates_of (tree.get lower_cmp more q.name) ≡ own_updates q rs ++ own_updates q (r ∷ [])
-    by true e = ap updates_of (more_is true e) ∙ items
-        ∙ ap (λ m. updates_of (tree.get lower_cmp owners m) ++ r ∷ []) (same_lower-exact (lowered r.name) q.name e)
-        ∙ ap (λ us. us ++ r ∷ []) (h q) ∙ ap (λ b. own_updates q rs ++ cond b (r ∷ []) []) (sym e)
-    by false e = ap updates_of (more_is false e) ∙ h q ∙ sym (append-nil (own_updates q rs))
-        ∙ ap (λ b. own_updates q rs ++ cond b (r ∷ []) []) (sym e)
+        by : (b : Bool) → is_owned r.name q ≡ b
+            → updates_of (tree.get lower_cmp more q.name) ≡ own_updates q rs ++ own_updates q (r ∷ [])
+        by true e = ap updates_of (more_is true e) ∙ items
+            ∙ ap (λ m. updates_of (tree.get lower_cmp owners m) ++ r ∷ []) (same_lower-exact (lowered r.name) q.name e)
+            ∙ ap (λ us. us ++ r ∷ []) (h q) ∙ ap (λ b. own_updates q rs ++ cond b (r ∷ []) []) (sym e)
+        by false e = ap updates_of (more_is false e) ∙ h q ∙ sym (append-nil (own_updates q rs))
+            ∙ ap (λ b. own_updates q rs ++ cond b (r ∷ []) []) (sym e)
 
   -- beside others
   pub grouped_beside : (was us : Vec (Bor (Record RData)) A) (x : Bor (Record RData)) → x.now ≡ r

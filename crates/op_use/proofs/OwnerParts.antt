@@ -21,7 +21,7 @@ use Rattle.rr.specs.SetUpdates.{without}
 use Rattle.rr.specs.declared.record.Record.{Record}
 use Rattle.std.proofs.Common.{ap, refl, subst, sym, ◌∙◌}
 use Rattle.std.proofs.Math.Bool.{and-false, or-true}
-use Rattle.std.proofs.lemmas.Bool.{or_parts, true≢false}
+use Rattle.std.proofs.lemmas.Bool.{false_from_ne_true, or_parts, true≢false}
 use Rattle.std.specs.FinMap as fin
 use Rattle.std.specs.Cmp.{eq_by_cmp_equiv}
 use Rattle.std.specs.List.{filter, fold, list_any}
@@ -34,14 +34,10 @@ use Rattle.std.specs.Prelude.{not, true, unwrap_or, ◌&&◌, ◌||◌, ◌∷�
 own : (owner : NameValue) (t : RecordType) → is_owned owner (key_of owner t) ≡ true
 own owner t = (same_by-equiv exact).refl (lowered owner)
 
-other_key : (r : Record RData) (q : RrKey) (b : Bool) → is_under r q ≡ b → is_owned r.name q ≡ false → b ≡ false
-other_key r q true e free = absurd (true≢false
-    (sym (own r.name (type_of_record r)) ∙ ap (is_owned r.name) (same_key (record_key r) q e) ∙ free))
-other_key r q false e free = refl
-
 -- the key of a record isn't one of another owner
 pub not_under : (r : Record RData) (q : RrKey) → is_owned r.name q ≡ false → is_under r q ≡ false
-not_under r q free = other_key r q (is_under r q) refl free
+not_under r q free = false_from_ne_true _ (λ e. true≢false
+    (sym (own r.name (type_of_record r)) ∙ ap (is_owned r.name) (same_key (record_key r) q e) ∙ free))
 
 -- the owner of a key that a record stands under
 pub under_owner : (r : Record RData) (q : RrKey) → is_under r q ≡ true → is_owned r.name q ≡ true
@@ -308,43 +304,35 @@ module _ (q : RrKey) where
   -- an update of another owner leaves those keys
   module _ (r : Record RData) (free : is_owned r.name q ≡ false) where
     other : (k : RrKey) → beside k ≡ true → is_owned r.name k ≡ false
-    other k h = by (is_owned r.name k) refl where
-      by : (b : Bool) → is_owned r.name k ≡ b → b ≡ false
-      by true e = absurd (true≢false
-          (sym (ap (same_lower (lowered r.name)) (same_lower-exact q.name k.name h) ∙ e) ∙ free))
-      by false e = refl
+    other k h = sym (ap (same_lower (lowered r.name)) (same_lower-exact q.name k.name h)) ∙ free
 
-    put_beside : (z : Zone) (xs : List Datum) (k : RrKey) → beside k ≡ true
-        → fin.get z.sets k ≡ fin.get (put z (record_key r) xs).sets k
-    put_beside z xs k h = sym (get_with_set z.sets (record_key r) xs k
-        ∙ ap (λ b. cond b (kept xs) (fin.get z.sets k))
-        ((eq_by_cmp_equiv key_cmp-total).symm k (record_key r) ∙ not_under r k (other k h)))
+    one_of_two : (b : Bool) (z x y : Zone) → Agrees beside z x → Agrees beside z y
+        → Agrees beside z (if b then x else y)
+    one_of_two true z x y h g = h
+    one_of_two false z x y h g = g
 
-    stays_by : (how : Use) (z : Zone) (k : RrKey) → beside k ≡ true
-        → fin.get z.sets k ≡ fin.get (update_by how z r).sets k
-    stays_by OfZone z k h = by (is_kept_out z r) where
-      by : (b : Bool) → fin.get z.sets k
-          ≡ fin.get (if b then z else put z (record_key r) (with_datum r (at z (record_key r)))).sets k
-      by true = refl
-      by false = put_beside z _ k h
-    stays_by OfAny z k h = sym (fin.get-retain_keys z.sets (λ k. not (goes_with z r k)) k
-        (λ x t. ap (λ k. not (goes_with z r k)) (sym (key_cmp-exact k x t)))
-        ∙ ap (λ b. cond (not b) (fin.get z.sets k) None) (not_gone r k (other k h) z))
-    stays_by OfNone z k h = by (is_needed z r) where
-      by : (b : Bool) → fin.get z.sets k
-          ≡ fin.get (if b then z else put z (record_key r) (removed (at z (record_key r)) r)).sets k
-      by true = refl
-      by false = put_beside z _ k h
-    stays_by OfNothing z k h = refl
+    same : (z : Zone) → Agrees beside z z
+    same z = record { origin = refl; class = refl; sets = λ k h. refl }
 
-    agrees_beside : (z : Zone) → Agrees beside z (update z r)
-    agrees_beside z =
-        let place = same_place_by (use_of z.class r.dns_class) z r in
-        record {
-          origin = sym place.0;
-          class = sym place.1;
-          sets = λ k h. stays_by (use_of z.class r.dns_class) z k h;
-        }
+    put_beside : (z : Zone) (xs : List Datum) → Agrees beside z (put z (record_key r) xs)
+    put_beside z xs = record {
+      origin = refl;
+      class = refl;
+      sets = λ k h. sym (get_with_set z.sets (record_key r) xs k ∙ ap (λ b. cond b (kept xs) (fin.get z.sets k))
+          ((eq_by_cmp_equiv key_cmp-total).symm k (record_key r) ∙ not_under r k (other k h)));
+    }
+
+    agrees_beside : (how : Use) (z : Zone) → Agrees beside z (update_by how z r)
+    agrees_beside OfZone z = one_of_two (is_kept_out z r) z z _ (same z) (put_beside z _)
+    agrees_beside OfAny z = record {
+      origin = refl;
+      class = refl;
+      sets = λ k h. sym (fin.get-retain_keys z.sets (λ k. not (goes_with z r k)) k
+          (λ x t. ap (λ k. not (goes_with z r k)) (sym (key_cmp-exact k x t)))
+          ∙ ap (λ b. cond (not b) (fin.get z.sets k) None) (not_gone r k (other k h) z));
+    }
+    agrees_beside OfNone z = one_of_two (is_needed z r) z z _ (same z) (put_beside z _)
+    agrees_beside OfNothing z = same z
 
   of_owner_next : (r : Record RData) (rs : List (Record RData)) (z : Zone) (xs : List (Record RData))
       → ((z : Zone) (xs : List (Record RData)) → records_after z (own_updates rs) q xs ≡ records_after z rs q xs)
@@ -352,7 +340,8 @@ module _ (q : RrKey) where
       → records_after z (cond b (r ∷ own_updates rs) (own_updates rs)) q xs ≡ records_after z (r ∷ rs) q xs
   of_owner_next r rs z xs more true e = more (update z r) (after_update z r q xs)
   of_owner_next r rs z xs more false e =
-      records_same beside (own_updates rs) z (update z r) q xs (own_beside rs) (agrees_beside r e z)
+      records_same beside (own_updates rs) z (update z r) q xs (own_beside rs)
+      (agrees_beside r e (use_of z.class r.dns_class) z)
       ∙ more (update z r) xs
       ∙ ap (records_after (update z r) rs q) (sym (after_use_there r q e (use_of z.class r.dns_class) z xs))
 

@@ -57,7 +57,7 @@ put_put z k xs ys = ap (λ (m : FinMap key_cmp (List Datum)). record z { sets = 
     ∙ ap (cond (eq_by_cmp key_cmp q k) (kept ys)) (get_with_set z.sets k xs q)
     ∙ twice (eq_by_cmp key_cmp q k) (kept xs) (kept ys) (fin.get z.sets q) ∙ sym (get_with_set z.sets k ys q)))
 
-equal_of : (o : Ordering) → is_eq o ≡ true → o ≡ Equal
+pub equal_of : (o : Ordering) → is_eq o ≡ true → o ≡ Equal
 equal_of Less h = cc
 equal_of Equal h = refl
 equal_of Greater h = cc

@@ -18,7 +18,8 @@ use Rattle.rr.specs.declared.record.Record.{Record}
 use Rattle.std.specs.BTreeMap as tree
 use Rattle.std.specs.BTreeMap.{BTreeMap}
 use Rattle.std.specs.Borrow.{Bor}
-use Rattle.std.specs.Prelude.{[], Bool, List, None, Option, Some, Vec, false, is_some, map, true, unwrap_or, ◌&&◌, ◌≡◌, ◌≢◌, ◌⊎◌}
+use Rattle.std.specs.Prelude.{[], Bool, List, None, Option, Some, Vec, false, is_some, map, true, unwrap_or, ◌&&◌, ◌≡◌}
+use Rattle.std.specs.Prelude.{◌≢◌, ◌⊎◌}
 
 -- a set that is added, or what is there
 abbrev pub added_at : Option SetValue → Option SetValue → Option SetValue

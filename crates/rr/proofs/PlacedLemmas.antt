@@ -4,18 +4,16 @@ use Rattle.base_data.specs.Kinds.{canonical_data}
 use Rattle.base_data.specs.SameData.{same_data}
 use Rattle.base_data.specs.declared.rdata.RData.{RData}
 use Rattle.rr.proofs.Around.{alone, any_around, any_one, cut, joined_after, joined_around, without_around}
-use Rattle.rr.proofs.IndexLemmas.{one_key}
+use Rattle.rr.proofs.IndexLemmas.{Stands, equal_at, index_here, index_last, not_found, not_there, push_at, set_at}
 use Rattle.rr.proofs.SetLaws.{Distinct, laws}
 use Rattle.rr.proofs.SetTidy.{distinct_left, distinct_put}
-use Rattle.rr.specs.DataIndex.{place_at}
-use Rattle.rr.specs.PlacedRecords.{IsIn, IsIndexed, IsPlaceIndex, IsPlaced, present}
+use Rattle.rr.specs.DataIndex.{IsPlaceIndex, place_at}
+use Rattle.rr.specs.PlacedRecords.{IsIn, IsIndexed, IsPlaced, present}
 use Rattle.rr.specs.SetChanges.{has_data_of, joined}
 use Rattle.rr.specs.SetUpdates.{has_data_of_one, without}
 use Rattle.rr.specs.declared.record.Record.{Record}
 use Rattle.std.proofs.Common.{ap, append_assoc, arith, drop, get_or, inl, inr, length-append, refl, subst, sym, take}
 use Rattle.std.proofs.Common.{◌∙◌}
-use Rattle.std.proofs.Common.{◌⊎◌}
-use Rattle.std.proofs.lemmas.Bool.{false_from_ne_true, true≢false}
 use Rattle.std.proofs.lemmas.List.{take-append-drop, take_more}
 use Rattle.std.proofs.lemmas.List.Elements.{filter_map-append}
 use Rattle.std.proofs.lemmas.List.Folds.{list_any-append}
@@ -23,7 +21,7 @@ use Rattle.std.proofs.lemmas.Option.{same_Some}
 use Rattle.std.specs.BTreeMap.{BTreeMap}
 use Rattle.std.specs.List.{list_any, slice_get}
 use Rattle.std.specs.Prelude.{Bool, List, None, Option, Some, Vec, [], false, length, not, set}
-use Rattle.std.specs.Prelude.{suc, true, zero, ℕ, ◌++◌, ◌+◌, ◌<◌, ◌||◌, ◌∷◌, ◌≡◌, ◌≢◌, ◌≤◌}
+use Rattle.std.specs.Prelude.{suc, true, ℕ, ◌++◌, ◌+◌, ◌<◌, ◌||◌, ◌∷◌, ◌≡◌, ◌≢◌, ◌≤◌}
 use Rattle.std.specs.declared.alloc.Global.{Global}
 
 abbrev pub Places : Type 0
@@ -31,30 +29,6 @@ Places = List (Option (Record RData))
 
 abbrev pub Index : Type 0
 Index = Option (BTreeMap (Vec ℕ Global) ℕ)
-
--- ---- what stands at a place after a change
-
-set_at : {X : Type 0} (xs : List X) (p i : ℕ) (x w y : X) → slice_get xs p ≡ Some x → slice_get (set xs p w) i ≡ Some y
-    → ((i ≡ p) × (w ≡ y)) ⊎ ((i ≢ p) × (slice_get xs i ≡ Some y))
-set_at [] p i x w y h e = absurd cc
-set_at (z ∷ zs) zero zero x w y h e = inl (refl, same_Some w y e)
-set_at (z ∷ zs) zero (suc i) x w y h e = inr ((λ q. absurd (omega (arith, q))), e)
-set_at (z ∷ zs) (suc p) zero x w y h e = inr ((λ q. absurd (omega (arith, q))), e)
-set_at (z ∷ zs) (suc p) (suc i) x w y h e = elim (set_at zs p i x w y h e) [
-  | inl here ↦ inl (ap suc here.0, here.1)
-  | inr other ↦ inr ((λ q. other.0 (omega (arith, q))), other.1)
-]
-
--- a place of those before a new last one, or that one
-push_at : {X : Type 0} (xs : List X) (w y : X) (i : ℕ) → slice_get (xs ++ w ∷ []) i ≡ Some y
-    → (slice_get xs i ≡ Some y) ⊎ ((i ≡ length xs) × (w ≡ y))
-push_at [] w y zero h = inr (refl, same_Some w y h)
-push_at [] w y (suc i) h = absurd cc
-push_at (x ∷ xs) w y zero h = inl h
-push_at (x ∷ xs) w y (suc i) h = elim (push_at xs w y i h) [
-  | inl before ↦ inl before
-  | inr last ↦ inr (ap suc last.0, last.1)
-]
 
 -- ---- the records that are there, after a change
 
@@ -142,61 +116,43 @@ none_present test [] h = refl
 none_present test (None ∷ ps) h = none_present test ps (λ i r e. h (suc i) r e)
 none_present test (Some x ∷ ps) h = λ k. h 0 x refl k || none_present test ps (λ i r e. h (suc i) r e) k
 
-module _ (find : List ℕ → Option ℕ) (ps : Places) (r : Record RData) (h : IsPlaceIndex find ps) where
-  equal_at : (i : ℕ) (x : Record RData) → slice_get ps i ≡ Some (Some x) → same_data x.rdata r.rdata ≡ true
-      → find (canonical_data r.rdata) ≡ Some i
-  equal_at i x e same = ap find (sym (one_key x.rdata r.rdata same)) ∙ h.at i x e
+-- where records stand among places
+abbrev StandsIn : Places → Stands
+StandsIn ps i r = slice_get ps i ≡ Some (Some r)
 
-  -- it has no place
-  pub not_found : None ≡ find (canonical_data r.rdata) → list_any (has_data_of r) (present ps) ≡ false
-  not_found none = none_present (has_data_of r) ps
-      (λ i x e. false_from_ne_true _ (λ same. none_is_not i (none ∙ equal_at i x e same)))
+module _ (find : List ℕ → Option ℕ) (ps : Places) (r : Record RData) (h : IsPlaceIndex find (StandsIn ps)) where
+  -- the index has no place of such data
+  pub nowhere : None ≡ find (canonical_data r.rdata) → list_any (has_data_of r) (present ps) ≡ false
+  nowhere none = none_present (has_data_of r) ps (not_found find (StandsIn ps) r h none)
 
   -- the place is not that of such data
-  pub not_there : (p : ℕ) → Some p ≡ find (canonical_data r.rdata)
+  pub not_in : (p : ℕ) → Some p ≡ find (canonical_data r.rdata)
       → ((x : Record RData) → slice_get ps p ≡ Some (Some x) → same_data x.rdata r.rdata ≡ false)
       → list_any (has_data_of r) (present ps) ≡ false
-  not_there p found other = none_present (has_data_of r) ps
-      (λ i x e. false_from_ne_true _ (λ same. true≢false
-      (sym same ∙ other x (ap (slice_get ps) (same_Some p i (found ∙ equal_at i x e same)) ∙ e))))
-
-  -- ---- the index after a change
-
-  -- a record in the place of one of its data
-  pub index_here : (p : ℕ) → IsIn r.rdata ps p → IsPlaceIndex find (set ps p (Some r))
-  index_here p here = record {
-    at = λ i x e. elim (set_at ps p i (Some here.known) (Some r) (Some x) here.here e) [
-      | inl a ↦ ap (λ (y : Record RData). find (canonical_data y.rdata)) (sym (same_Some r x a.1))
-          ∙ equal_at p here.known here.here here.same ∙ ap Some (sym a.0)
-      | inr b ↦ h.at i x b.1
-    ];
-  }
+  not_in p found other = none_present (has_data_of r) ps (not_there find (StandsIn ps) r h p found other)
 
   module _ (after : List ℕ → Option ℕ) (others : (cs : List ℕ) → cs ≢ canonical_data r.rdata → after cs ≡ find cs) where
     -- the record and its key are taken out
-    pub index_taken : (p : ℕ) → IsIn r.rdata ps p → IsPlaceIndex after (set ps p None)
+    pub index_taken : (p : ℕ) → IsIn r.rdata ps p → IsPlaceIndex after (StandsIn (set ps p None))
     index_taken p here = record {
       at = λ i x e. elim (set_at ps p i (Some here.known) None (Some x) here.here e) [
         | inl a ↦ absurd (none_is_not x a.1)
         | inr b ↦ others (canonical_data x.rdata) (λ same. b.0 (same_Some i p (sym (h.at i x b.1) ∙ ap find same
-            ∙ equal_at p here.known here.here here.same))) ∙ h.at i x b.1
+            ∙ equal_at find (StandsIn ps) r h p here.known here.here here.same))) ∙ h.at i x b.1
       ];
     }
 
     -- the record and its key are put in, after the others
-    pub index_last : find (canonical_data r.rdata) ≡ None → after (canonical_data r.rdata) ≡ Some (length ps)
-        → IsPlaceIndex after (ps ++ Some r ∷ [])
-    index_last free last = record {
-      at = λ i x e. elim (push_at ps (Some r) (Some x) i e) [
-        | inl a ↦ others (canonical_data x.rdata) (λ same. none_is_not i (sym free ∙ ap find (sym same) ∙ h.at i x a))
-            ∙ h.at i x a
-        | inr a ↦ ap (λ (y : Record RData). after (canonical_data y.rdata)) (sym (same_Some r x a.1)) ∙ last
-            ∙ ap Some (sym a.0)
-      ];
-    }
+    pub index_pushed : find (canonical_data r.rdata) ≡ None → after (canonical_data r.rdata) ≡ Some (length ps)
+        → IsPlaceIndex after (StandsIn (ps ++ Some r ∷ []))
+    index_pushed free last = index_last find (StandsIn ps) r h _ after (length ps) others free last
+        (λ i x e. elim (push_at ps (Some r) (Some x) i e) [
+          | inl a ↦ inl a
+          | inr b ↦ inr (b.0, same_Some r x b.1)
+        ])
 
 pub if_index : (index : Index) (ps qs : Places)
-    → ((find : List ℕ → Option ℕ) → IsPlaceIndex find ps → IsPlaceIndex find qs)
+    → ((find : List ℕ → Option ℕ) → IsPlaceIndex find (StandsIn ps) → IsPlaceIndex find (StandsIn qs))
     → IsIndexed index ps → IsIndexed index qs
 if_index None ps qs more h = tt
 if_index (Some m) ps qs more h = more (place_at m) h
@@ -206,7 +162,12 @@ pub placed_here : (index : Index) (ps : Places) (p : ℕ) (r : Record RData) →
     → IsPlaced index (set ps p (Some r))
 placed_here index ps p r h here = record {
   distinct = subst Distinct (sym (joined_here ps p r here h.distinct)) (distinct_put r (present ps) _ refl h.distinct);
-  indexed = if_index index ps (set ps p (Some r)) (λ find k. index_here find ps r k p here) h.indexed;
+  indexed = if_index index ps (set ps p (Some r))
+      (λ find k. index_here find (StandsIn ps) r k _ p here.known here.here here.same
+      (λ i x e. elim (set_at ps p i (Some here.known) (Some r) (Some x) here.here e) [
+        | inl a ↦ inl (a.0, same_Some r x a.1)
+        | inr b ↦ inr b.1
+      ])) h.indexed;
 }
 
 pub placed_last : (index : Index) (ps : Places) (r : Record RData) → Distinct (present ps)

@@ -1,5 +1,5 @@
 -- Tidy sets stay tidy.
-use Rattle.std.proofs.Common.{ℕ, Bool, true, false, not, cond, List, [], ◌∷◌, ◌++◌, ◌≡◌, ◌≤◌, ◌+◌, ◌||◌, refl, sym}
+use Rattle.std.proofs.Common.{ℕ, Bool, true, false, not, cond, List, [], ◌∷◌, ◌++◌, ◌≡◌, ◌≤◌, ◌||◌, refl, sym}
 use Rattle.std.proofs.Common.{subst, ◌∙◌, length, filter, arith, if◌then◌else◌}
 use Rattle.std.specs.List.{AllByRecursion, IsDistinct, list_any}
 use Rattle.std.proofs.lemmas.Bool.{or_parts}

@@ -1,5 +1,5 @@
 -- The index of the data of records: the place of each at a key, the bytes of the canonical form of its data.
-use Rattle.std.specs.Prelude.{true, false, ℕ, ◌<◌, ◌≤◌, ◌≡◌, ◌≢◌, List, Option, Some, Vec, get_or, length}
+use Rattle.std.specs.Prelude.{true, false, ℕ, ◌<◌, ◌≤◌, ◌≡◌, ◌≢◌, List, Option, Some, Vec, length}
 use Rattle.std.specs.BTreeMap.{BTreeMap, get_by}
 use Rattle.std.specs.Cmp.Lexicographic.{slice_cmp}
 use Rattle.std.specs.List.{list_any, slice_get}
@@ -17,11 +17,14 @@ use Rattle.rr.specs.declared.rr_set.indexed_records.Index.TheVariants.{Missing, 
 abbrev pub place_at : BTreeMap (Vec ℕ Global) ℕ → List ℕ → Option ℕ
 place_at index key = get_by (λ k. slice_cmp nat_cmp key k.items) index
 
--- The index has the place of each record at the key of its data. So no two records have equal data. What it has at
--- other keys is open.
-pub record IsIndexOf (find : List ℕ → Option ℕ) (rs : List (Record RData)) : Type 0 where
-  pub at : (i : ℕ) (d : Record RData) → i < length rs
-      → find (canonical_data (get_or rs i d).rdata) ≡ Some i
+-- The index has the place of each record, where these stand, at the key of its data. So no two of them have equal
+-- data. What it has at other keys is open.
+pub record IsPlaceIndex (find : List ℕ → Option ℕ) (stands : ℕ → Record RData → Type 0) : Type 0 where
+  pub at : (i : ℕ) (r : Record RData) → stands i r → find (canonical_data r.rdata) ≡ Some i
+
+-- the same of records in a row
+abbrev pub IsIndexOf : (List ℕ → Option ℕ) → List (Record RData) → Type 0
+IsIndexOf find rs = IsPlaceIndex find (λ i r. slice_get rs i ≡ Some r)
 
 -- An index that there is, is that of these records.
 abbrev pub IsCurrent : Index → List (Record RData) → Type 0
@@ -30,10 +33,11 @@ IsCurrent (Made places) rs = IsIndexOf (place_at places.value) rs
 
 -- At this place, and at no other, there is a record of this data.
 pub record IsOnlyAt (rdata : RData) (rs : List (Record RData)) (p : ℕ) : Type 0 where
-  pub inside : p < length rs
-  pub same : (d : Record RData) → same_data (get_or rs p d).rdata rdata ≡ true
-  pub others : (i : ℕ) (d : Record RData) → i < length rs → i ≢ p
-      → same_data (get_or rs i d).rdata rdata ≡ false
+  pub known : Record RData
+  pub here : slice_get rs p ≡ Some known
+  pub same : same_data known.rdata rdata ≡ true
+  pub others : (i : ℕ) (r : Record RData) → i ≢ p → slice_get rs i ≡ Some r
+      → same_data r.rdata rdata ≡ false
 
 -- At this place stands the first record of this data.
 abbrev pub IsFirstAt : RData → List (Record RData) → ℕ → Type 0

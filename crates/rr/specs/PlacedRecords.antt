@@ -1,8 +1,7 @@
 -- Records that keep their places: the place of a record that was taken out is empty.
-use Rattle.base_data.specs.Kinds.{canonical_data}
 use Rattle.base_data.specs.SameData.{same_data}
 use Rattle.base_data.specs.declared.rdata.RData.{RData}
-use Rattle.rr.specs.DataIndex.{place_at}
+use Rattle.rr.specs.DataIndex.{IsPlaceIndex, place_at}
 use Rattle.rr.specs.declared.record.Record.{Record}
 use Rattle.std.specs.BTreeMap.{BTreeMap}
 use Rattle.std.specs.List.{IsDistinct, filter_map, slice_get}
@@ -14,14 +13,9 @@ use Rattle.std.specs.declared.alloc.Global.{Global}
 abbrev pub present : List (Option (Record RData)) → List (Record RData)
 present ps = filter_map (λ (o : Option (Record RData)). o) ps
 
--- The index has the place of each record at the key of its data. What it has at other keys is open.
-pub record IsPlaceIndex (find : List ℕ → Option ℕ) (ps : List (Option (Record RData))) : Type 0 where
-  pub at : (i : ℕ) (r : Record RData) → slice_get ps i ≡ Some (Some r)
-      → find (canonical_data r.rdata) ≡ Some i
-
 -- an index that there is, is that of the places
 abbrev pub IsIndexed : Option (BTreeMap (Vec ℕ Global) ℕ) → List (Option (Record RData)) → Type 0
-IsIndexed index ps = IfSome index (λ m. IsPlaceIndex (place_at m) ps)
+IsIndexed index ps = IfSome index (λ m. IsPlaceIndex (place_at m) (λ i r. slice_get ps i ≡ Some (Some r)))
 
 -- no two records have equal data, and an index that there is, is that of their places
 pub record IsPlaced (index : Option (BTreeMap (Vec ℕ Global) ℕ)) (ps : List (Option (Record RData)))

@@ -7,4 +7,4 @@ pub mod rr_set;
 
 pub use record::Record;
 pub use record_ref::RecordRef;
-pub use rr_set::{ChangingSet, RecordSet, RecordSetParts, RrsetRecords};
+pub use rr_set::{ChangingSet, DataIndex, RecordSet, RecordSetParts, RrsetRecords, data_key};

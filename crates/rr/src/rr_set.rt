@@ -26,6 +26,7 @@ use crate::record::Record;
 use crate::rr_set::indexed_records::IndexedRecords;
 use base::{DNSClass, Name, ProtoError, RecordType};
 pub use changing_set::ChangingSet;
+pub use data_index::{DataIndex, data_key};
 use std::alloc::{AllocError, Global};
 use std::marker::Model;
 use std::{slice, vec};

@@ -15,7 +15,7 @@ use crate::apply::rules::{Use, use_of};
 use crate::apply::zone::{Zone, has_type, key_of};
 use base::{DNSClass, RecordType, RrKey};
 use op::ResponseCode;
-use rr::{Record, RecordSet};
+use rr::{DataIndex, Record, RecordSet, data_key};
 use std::alloc::AllocError;
 use std::collections::BTreeMap;
 
@@ -88,13 +88,12 @@ impl<'a> Zone<'a> {
     }
 }
 
-/// Where data stands among records, by its canonical form. It only says where to look first, so nothing is promised of
-/// it: the record there is compared, and where it has other data, all records are, which ends the test.
-pub(crate) type Places = BTreeMap<Vec<u8>, usize>;
-
 impl<'a> Zone<'a> {
     /// Whether the sets that prerequisites of the zone's class name are those that they list (RFC 2136, 3.2.3). A set
     /// is looked at for the first of them that names it alone.
+    ///
+    /// Data is looked for by the indexes first, of which nothing is promised: where one has it not, all records are
+    /// compared, which ends the test.
     pub(crate) fn are_met(&self, entries: &[Record]) -> Result<bool, AllocError>
         ensures { IfOk result (λ b. b
             ≡ list_all (is_met (zone_held self.now) (collected (zone_held self.now) entries.now))
@@ -118,8 +117,8 @@ impl<'a> Zone<'a> {
         &self,
         entry: &Record,
         entries: &[Record],
-        asked: &BTreeMap<RrKey, Places>,
-        held: &mut BTreeMap<RrKey, Places>,
+        asked: &BTreeMap<RrKey, DataIndex>,
+        held: &mut BTreeMap<RrKey, DataIndex>,
     ) -> Result<bool, AllocError>
         requires { AreComplete self.now.sets self.now.class entries.now held.old }
         ensures met { IfOk result (λ b. b
@@ -146,16 +145,16 @@ impl<'a> Zone<'a> {
     }
 
     /// Where the data of the prerequisites of the zone's class stands among them, under the key of each set.
-    fn places_asked(&self, entries: &[Record]) -> Result<BTreeMap<RrKey, Places>, AllocError> {
+    fn places_asked(&self, entries: &[Record]) -> Result<BTreeMap<RrKey, DataIndex>, AllocError> {
         let alloc = self.origin.allocator();
-        let mut asked: BTreeMap<RrKey, Places> = BTreeMap::new(alloc);
+        let mut asked: BTreeMap<RrKey, DataIndex> = BTreeMap::new(alloc);
         for (place, entry) in entries.iter().enumerate() {
             if !matches!(use_of(self.class, entry.dns_class), Use::OfZone) {
                 continue;
             }
             let key = key_of(&entry.name, entry.record_type())?;
             let places = asked.entry(key)?.or_insert(BTreeMap::new(alloc));
-            places.insert(canonical(entry)?, place)?;
+            places.insert(data_key(&entry.rdata, alloc)?, place)?;
         }
         Ok(asked)
     }
@@ -164,7 +163,7 @@ impl<'a> Zone<'a> {
 /// Whether each record of a set is among those that the prerequisites list for the set of this entry.
 fn are_listed(
     records: &[Record],
-    asked: Option<&Places>,
+    asked: Option<&DataIndex>,
     class: DNSClass,
     entries: &[Record],
     entry: &Record,
@@ -184,7 +183,7 @@ fn are_listed(
 /// Whether a record is among those that the prerequisites list for the set of this entry.
 fn is_listed(
     known: &Record,
-    asked: Option<&Places>,
+    asked: Option<&DataIndex>,
     class: DNSClass,
     entries: &[Record],
     entry: &Record,
@@ -215,7 +214,7 @@ fn is_of_set(class: DNSClass, entry: &Record, listed: &Record) -> bool
 }
 
 /// Whether one of these records has the data of this one.
-fn has_data(records: &[Record], places: &Places, entry: &Record) -> Result<bool, AllocError>
+fn has_data(records: &[Record], places: &DataIndex, entry: &Record) -> Result<bool, AllocError>
     ensures { IfOk result (λ b. b ≡ list_any (has_data_of entry.now) records.now) }
 {
     if look_up(records, Some(places), entry)?.is_some() {
@@ -230,11 +229,11 @@ fn has_data(records: &[Record], places: &Places, entry: &Record) -> Result<bool,
 }
 
 /// Where the data of each record of a set stands among them.
-fn places_of(set: &RecordSet) -> Result<Places, AllocError> {
-    let records = set.as_slice();
-    let mut places = BTreeMap::new(set.name().allocator());
+fn places_of(set: &RecordSet) -> Result<DataIndex, AllocError> {
+    let (records, alloc) = (set.as_slice(), set.name().allocator());
+    let mut places = BTreeMap::new(alloc);
     for (place, entry) in records.iter().enumerate() {
-        places.insert(canonical(entry)?, place)?;
+        places.insert(data_key(&entry.rdata, alloc)?, place)?;
     }
     Ok(places)
 }
@@ -242,7 +241,7 @@ fn places_of(set: &RecordSet) -> Result<Places, AllocError> {
 /// The record of this data, if the places know it.
 fn look_up<'r>(
     records: &'r [Record],
-    places: Option<&Places>,
+    places: Option<&DataIndex>,
     entry: &Record,
 ) -> Result<Option<&'r Record>, AllocError>
     ensures { IfOk result (λ found. IfSome found (λ x. IsAmong records.now x.now
@@ -251,8 +250,8 @@ fn look_up<'r>(
     let Some(places) = places else {
         return Ok(None);
     };
-    let data = canonical(entry)?;
-    let Some(place) = places.get(&data) else {
+    let key = data_key(&entry.rdata, entry.name.allocator())?;
+    let Some(place) = places.get(&key) else {
         return Ok(None);
     };
     let Some(known) = records.get(*place) else {
@@ -262,12 +261,4 @@ fn look_up<'r>(
         return Ok(Some(known));
     }
     Ok(None)
-}
-
-/// The canonical form of a record's data.
-fn canonical(entry: &Record) -> Result<Vec<u8>, AllocError> {
-    entry
-        .rdata
-        .to_canonical(entry.name.allocator())
-        .map_err(|_| AllocError)
 }

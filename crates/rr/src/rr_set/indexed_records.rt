@@ -10,7 +10,7 @@ ghost use Rattle.std.specs.List.{list_any};
 ghost use Rattle.std.specs.Prelude.{IfNone, IfOk, IfSome, IsTrue, List, MatchOption, OnErr, OnOk, [], false, filter, is_ok, length, map, not, vec_capacity, ◌<◌, ◌∷◌, ◌≡◌, ◌≤◌};
 
 use crate::record::Record;
-use crate::rr_set::data_index::{DataIndex, key_of};
+use crate::rr_set::data_index::{DataIndex, data_key};
 use crate::rr_set::scanning::{
     enter, is_entry, join, put_alone, set_at, set_classes, set_ttls, take_all, take_data,
 };
@@ -228,7 +228,7 @@ fn index_of(records: &Vec<Record>) -> Result<Option<Box<DataIndex>>, AllocError>
     let alloc = *records.allocator();
     let mut places = BTreeMap::new(alloc);
     for place in 0..records.len() {
-        let key = key_of(&records[place].rdata, alloc)?;
+        let key = data_key(&records[place].rdata, alloc)?;
         if places.insert(key, place)?.is_some() {
             return Ok(None);
         }
@@ -282,7 +282,7 @@ fn make_room(
     let Some(mut places) = index.take(records)? else {
         return Ok(None);
     };
-    let key = key_of(&entry.rdata, *records.allocator())?;
+    let key = data_key(&entry.rdata, *records.allocator())?;
     if let Some(place) = place_of(&places, records, &key, entry) {
         *index = Index::Made(places);
         return Ok(Some(place));

@@ -10,7 +10,7 @@ ghost use Rattle.std.specs.List.{list_any};
 ghost use Rattle.std.specs.Prelude.{IfOk, List, MatchOption, None, OnErr, OnOk, Option, Some, [], false, length, set, ℕ, ◌++◌, ◌<◌, ◌∷◌, ◌≡◌};
 
 use crate::record::Record;
-use crate::rr_set::data_index::{DataIndex, key_of};
+use crate::rr_set::data_index::{DataIndex, data_key};
 use std::alloc::{AllocError, Global};
 use std::collections::BTreeMap;
 use std::marker::Model;
@@ -62,7 +62,7 @@ impl PlacedRecords {
         ensures ok { OnOk result (self.new ≡ joined entry.now self.old) }
         ensures err { OnErr result (self.new ≡ self.old) }
     {
-        let key = key_of(&entry.rdata, *self.places.allocator())?;
+        let key = data_key(&entry.rdata, *self.places.allocator())?;
         if let Some(place) = place_of(&self.index, &self.places, &key, entry) {
             put_at(&mut self.places, place, Some(entry.clone()?));
             return Ok(());
@@ -82,7 +82,7 @@ impl PlacedRecords {
         ensures ok { OnOk result (self.new ≡ without (entry.now ∷ []) self.old) }
         ensures err { OnErr result (self.new ≡ self.old) }
     {
-        let key = key_of(&entry.rdata, *self.places.allocator())?;
+        let key = data_key(&entry.rdata, *self.places.allocator())?;
         let Some(place) = place_of(&self.index, &self.places, &key, entry) else {
             return Ok(false);
         };

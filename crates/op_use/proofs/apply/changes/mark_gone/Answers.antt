@@ -29,7 +29,8 @@ loop-key-preserved c =
     let puts : Sets c.key-item.result (Some None) c.loop-key.changed c.insert.new.self =
     subst (λ (x : RrKey). Sets x (Some None) c.loop-key.changed c.insert.new.self) copy
     c.in_ok-insert.ensures.updates.0 in
-    subst (λ ks. Is now old c.insert.new.self ks) (one_taken _ c.loop-key.key-index k c.loop-key-test.true c.key-item.is)
+    subst (λ ks. Is now old c.insert.new.self ks)
+    (one_taken _ c.loop-key.key-index k c.loop-key-test.true c.key-item.is)
     (one_more (mark now old) (get key_cmp old) k _ c.loop-key.changed c.loop-key.invariant c.insert.new.self
     (put_here k _ c.loop-key.changed c.insert.new.self puts ∙ ap (λ b. cond b (get key_cmp old k) (Some None))
     (sym c.if-contains_key.false ∙ c.contains_key.ensures))

@@ -1,4 +1,5 @@
-use Rattle.std.proofs.Common.{rules, arith, ◌≡◌, ◌<◌, ◌∙◌, length, true, List, ap, subst, sym}
+use Rattle.std.proofs.lemmas.Option.{slice_get_read}
+use Rattle.std.proofs.Common.{refl, rules, arith, ◌≡◌, ◌<◌, ◌∙◌, length, true, List, ap, subst, sym}
 use Rattle.base_data.specs.declared.rdata.RData.{RData}
 use Rattle.rr.specs.DataIndex.{IsFirstAt}
 use Rattle.rr.specs.declared.record.Record.{Record}
@@ -26,7 +27,8 @@ returns-then-is_entry-clause-value c =
     let len : c.len.result ≡ length c.args.records.now.items = search rules in
     let inside : c.args.place < length c.args.records.now.items = omega arith in
     entered_not c.args.entry c.args.records.now.items c.args.place c.index.result.now
-    (c.requires.place.known inside) c.index.ensures
+    (c.requires.place.known inside)
+    (slice_get_read c.args.records.now.items _ c.args.place c.index.result.now refl inside c.index.ensures)
     (sym c.is_entry.ensures ∙ c.if-is_entry.true)
 
 pub returns-then-is_entry-clause-place : goal.returns-then-is_entry-clause-place
@@ -41,7 +43,8 @@ returns-clause-value c =
     let inside : c.args.place < length c.args.records.now.items = omega arith in
     ap (λ (ys : List (Record RData)). (true, ys)) c.set_at.ensures
     ∙ entered_at c.args.entry c.args.records.now.items c.args.place c.index.result.now
-    (c.requires.place.known inside) c.index.ensures
+    (c.requires.place.known inside)
+    (slice_get_read c.args.records.now.items _ c.args.place c.index.result.now refl inside c.index.ensures)
     (sym c.is_entry.ensures ∙ c.if-is_entry.false)
 
 pub returns-clause-place : goal.returns-clause-place

@@ -1,4 +1,5 @@
 use Rattle.std.proofs.Common.{arith, rules, ℕ, ◌≡◌, ◌∙◌, List, ap, length, not, subst, sym}
+use Rattle.std.proofs.lemmas.Option.{slice_get_within}
 use Rattle.std.specs.BTreeMap.{BTreeMap}
 use Rattle.std.specs.Prelude.{Vec}
 use Rattle.std.specs.declared.alloc.Global.{Global}
@@ -6,7 +7,7 @@ use Rattle.base_data.specs.declared.rdata.RData.{RData}
 use Rattle.rr.specs.DataIndex.{IsIndexOf, place_at}
 use Rattle.rr.specs.declared.record.Record.{Record}
 use Rattle.rr.proofs.Around.{joined_after}
-use Rattle.rr.proofs.IndexLemmas.{index_set, index_wider, joined_at, none_of, place_here, place_is}
+use Rattle.rr.proofs.IndexLemmas.{index_set, index_wider, joined_at, none_of, place_here}
 use Rattle.rr.proofs.IndexLemmas.{place_known, place_last, place_others, pushed}
 use Rattle.rr.proofs.rr_set.indexed_records.make_room.Goals as goal
 
@@ -18,7 +19,7 @@ returns-in-Some-place_of-clause-joined c =
     let find = place_at c.in-Some.places.value in
     let indexed : IsIndexOf (place_at c.in-Some.places.value) c.args.records.now.items = search rules in
     subst (λ (ys : List (Record RData)). IsIndexOf find ys) (joined_at r rs p c.in-Some-place_of.ensures)
-    (index_set find rs p r indexed (place_is find rs r.rdata p r indexed c.in-Some-place_of.ensures))
+    (index_set find rs p r indexed c.in-Some-place_of.ensures)
 
 pub returns-then-is_none-clause-index : goal.returns-then-is_none-clause-index
 returns-then-is_none-clause-index c =
@@ -30,7 +31,7 @@ returns-then-is_none-clause-index c =
     let indexed = subst (λ (t : BTreeMap (Vec ℕ Global) ℕ). IsIndexOf (place_at t) rs)
     (sym c.deref_mut.ensures.value) there in
     let free = none_of c.in_ok-insert.field-0 (c.is_none.ensures ∙ ap not c.if-is_none.true) in
-    index_wider (place_at m) (place_at n) rs ks indexed (sym c.in_ok-insert.ensures.old ∙ free)
+    index_wider (place_at m) (place_at n) _ ks indexed (sym c.in_ok-insert.ensures.old ∙ free)
     (place_others ks m n _ c.in_ok-insert.ensures.updates)
 
 pub returns-then-is_none-clause-joined : goal.returns-then-is_none-clause-joined
@@ -55,7 +56,12 @@ returns-in-Some-place_of-clause-place c =
     place_known c.args.entry.now c.args.records.now.items c.in-Some-place_of.place c.in-Some-place_of.ensures
 
 pub returns-in-Some-place_of-clause-room : goal.returns-in-Some-place_of-clause-room
-returns-in-Some-place_of-clause-room c = λ last. absurd (omega (arith, last, c.in-Some-place_of.ensures.inside))
+returns-in-Some-place_of-clause-room c = λ last. absurd (omega (
+  arith,
+  last,
+  slice_get_within c.args.records.now.items c.in-Some-place_of.place c.in-Some-place_of.ensures.known
+      c.in-Some-place_of.ensures.here,
+))
 
 pub returns-in-Some-place_of-clause-index : goal.returns-in-Some-place_of-clause-index
 returns-in-Some-place_of-clause-index c = rw c.in-Some.is at c.in_ok-places.ensures.index
