@@ -19,7 +19,7 @@ use Rattle.rr.specs.RecordSet.{SetValue}
 use Rattle.rr.specs.declared.record.Record.{Record}
 use Rattle.op.specs.Cut.{IsCut, IsUncut}
 use Rattle.op.specs.Fits.{Fits, FitsEdns, FitsPlain, as_list}
-use Rattle.op.specs.Message.{IsMessageAt, MessageValue}
+use Rattle.op.specs.Message.{IsMessageAt, MessageValue, message_value}
 use Rattle.op.specs.Query.{FitsQuery}
 use Rattle.op.specs.Section.{is_additional_type}
 use Rattle.op.specs.declared.op_code.OpCode.TheVariants as op_codes
@@ -32,7 +32,6 @@ use Rattle.op_use.specs.UpdateMeaning.{SwapsSets}
 use Rattle.op_use.specs.UpdateMessage.{append, compare_and_swap, create, delete_all, delete_by_rdata, delete_rrset}
 use Rattle.op_use.specs.UpdateMessage.{empty_record, untimed_in, sections, update_edns, update_message, without_ttl}
 use Rattle.base.specs.declared.error.proto_error.ProtoError.{ProtoError}
-use Rattle.op.specs.Message.{message_value}
 use Rattle.op.specs.declared.message.Message.{Message}
 use Rattle.op_use.specs.Server.{Sections, sections_of, serve}
 use Rattle.op_use.proofs.Meaning.{append_changes, create_changes, compare_and_swap_changes, delete_all_changes}

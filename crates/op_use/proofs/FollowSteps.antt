@@ -11,9 +11,8 @@ use Rattle.op_use.specs.AppliedRecords.{after_by, after_update, records_after, r
 use Rattle.op_use.specs.Applying.{is_all_supported}
 use Rattle.op_use.specs.NamedChanges.{datum_of}
 use Rattle.op_use.specs.Server.{StepCode, OfAny, OfNone, OfNothing, OfZone, Sections, Use as UseValue, added, answer}
-use Rattle.op_use.specs.Server.{fault, goes_with, is_cname, is_needed, removed, is_under}
+use Rattle.op_use.specs.Server.{fault, goes_with, is_cname, is_needed, removed, is_under, update, update_by, use_of}
 use Rattle.rr.specs.Record.{record_key, type_of_record}
-use Rattle.op_use.specs.Server.{update, update_by, use_of}
 use Rattle.op_use.specs.Zone.{Datum, Zone, at, put}
 use Rattle.rr.specs.SetChanges.{joined}
 use Rattle.rr.specs.SetUpdates.{without}
@@ -22,8 +21,7 @@ use Rattle.std.proofs.Common.{ap, refl, sym, ◌∙◌}
 use Rattle.std.specs.FinMap as fin
 use Rattle.std.specs.List.{fold}
 use Rattle.std.specs.Ordering.{eq_by_cmp}
-use Rattle.std.specs.Prelude.{Bool, List, None, Some, [], cond, false, map, not, true, unwrap_or, ◌&&◌, ◌∷◌}
-use Rattle.std.specs.Prelude.{◌≡◌}
+use Rattle.std.specs.Prelude.{Bool, List, None, Some, [], cond, false, map, not, true, unwrap_or, ◌&&◌, ◌∷◌, ◌≡◌}
 
 module _ (z : Zone) (r : Record RData) (k : RrKey) (xs : List (Record RData)) (same : at z k ≡ map datum_of xs) where
   -- a change of the record's set

@@ -23,8 +23,7 @@ use Rattle.std.specs.List.{filter}
 use Rattle.std.specs.Map.{keys_of, lookup}
 use Rattle.std.specs.Ordering.{eq_by_cmp}
 use Rattle.std.specs.Prelude.{Bool, List, None, Option, Some, [], cond, false, is_some, length, slice_index_or, take}
-use Rattle.std.specs.Prelude.{true}
-use Rattle.std.specs.Prelude.{ℕ, ◌&&◌, ◌++◌, ◌+◌, ◌<◌, ◌||◌, ◌∷◌, ◌≡◌}
+use Rattle.std.specs.Prelude.{true, ℕ, ◌&&◌, ◌++◌, ◌+◌, ◌<◌, ◌||◌, ◌∷◌, ◌≡◌}
 
 -- what holds of a key and of all others
 pub each_key : (P : RrKey → Type 0) (k : RrKey) → P k → ((q : RrKey) → eq_by_cmp key_cmp k q ≡ false → P q)

@@ -27,11 +27,10 @@ use Rattle.base_data.specs.SameData.{same_data}
 use Rattle.op_use.specs.Zone.{Datum, IsZone, Zone, at, has_set, has_type_at, is_guarded, put}
 use Rattle.op_use.specs.NamedChanges.{has_data_of_set, is_data_of, less_data, less_key, merged, set_key}
 use Rattle.op_use.specs.Server.{Sections, StepCode, and_then, unless, first_fault, prescan_fault, prescan_by}
-use Rattle.op_use.specs.Server.{prerequisite_fault, prerequisite_by, prerequisites_fault}
-use Rattle.op_use.specs.Server.{collected, is_found, is_met, is_same_key, is_of_zone, use_of, is_any, is_meta, update}
-use Rattle.op_use.specs.Server.{removed, answer, serve}
-use Rattle.rr.specs.Record.{record_key, type_of_record}
+use Rattle.op_use.specs.Server.{prerequisite_fault, prerequisite_by, prerequisites_fault, collected, is_found, is_met}
+use Rattle.op_use.specs.Server.{is_same_key, is_of_zone, use_of, is_any, is_meta, update, removed, answer, serve}
 use Rattle.op_use.specs.Server.{zone_fault}
+use Rattle.rr.specs.Record.{record_key, type_of_record}
 use Rattle.op_use.specs.SoundSet.{IsFor, IsSoundIn, NoCname, is_ordinary}
 use Rattle.op_use.specs.UpdateMessage.{append, compare_and_swap, create, delete_all, delete_by_rdata, delete_rrset}
 use Rattle.op_use.specs.UpdateMessage.{emptied, empty_record, untimed_in, without_ttl}

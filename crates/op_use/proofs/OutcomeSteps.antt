@@ -19,8 +19,7 @@ use Rattle.op_use.specs.Applying.{zone_of_map}
 use Rattle.op_use.specs.HeldZone.{HeldZone, zone_held}
 use Rattle.op_use.specs.MapUpdates.{IsAfter, IsLeft, IsUpdated, Opens, has_key, names_set}
 use Rattle.op_use.specs.Outcome.{FitsThere, HasNothing, Installs, IsOutcome, IsSettled, Leaves, Settles, SettlesAt}
-use Rattle.op_use.specs.Outcome.{UpdatesOwner, UpdatesTo}
-use Rattle.op_use.specs.Outcome.{added_at, each, outcome_at, updates_of}
+use Rattle.op_use.specs.Outcome.{UpdatesOwner, UpdatesTo, added_at, each, outcome_at, updates_of}
 use Rattle.op_use.specs.Zone.{is_owned}
 use Rattle.op_use.specs.declared.apply.outcome.Outcome.{Outcome}
 use Rattle.rr.specs.RecordSet.{SetValue}
@@ -28,7 +27,7 @@ use Rattle.rr.specs.SetUpdates.{last_ttl}
 use Rattle.rr.specs.declared.record.Record.{Record}
 use Rattle.std.proofs.Common.{ap, inl, inr, refl, subst, sym, ◌∙◌, ◌⊎◌}
 use Rattle.std.proofs.Math.Bool.{and-false}
-use Rattle.std.proofs.lemmas.Bool.{false_from_ne_true, true≢false}
+use Rattle.std.proofs.lemmas.Bool.{false_from_ne_true, true_from_ne_false, true≢false}
 use Rattle.std.proofs.lemmas.List.Elements.{filter-append}
 use Rattle.std.proofs.lemmas.List.{append-nil, map-append}
 use Rattle.std.specs.BTreeMap as tree
@@ -38,8 +37,7 @@ use Rattle.std.specs.List.{filter}
 use Rattle.std.specs.Map.{lookup}
 use Rattle.std.specs.Ordering.{eq_by_cmp, is_eq}
 use Rattle.std.specs.Prelude.{Bool, List, None, Option, Some, Vec, [], cond, false, is_some, length, option_map, true}
-use Rattle.std.specs.Prelude.{unwrap_or}
-use Rattle.std.specs.Prelude.{◌&&◌, ◌++◌, ◌<◌, ◌∷◌, ◌≡◌, ◌≢◌}
+use Rattle.std.specs.Prelude.{unwrap_or, ◌&&◌, ◌++◌, ◌<◌, ◌∷◌, ◌≡◌, ◌≢◌}
 
 -- ---- a set that is settled
 
@@ -133,18 +131,16 @@ module _ (origin owner : NameValue) (class : DNSClass) (rs : List (Record RData)
 
   -- nothing stands now under keys of others
   owned_now : (q : RrKey) → is_some (tree.get key_cmp now q) ≡ true → is_owned owner q ≡ true
-  owned_now q h = by (is_owned owner q) refl (tree.get key_cmp now q) refl h where
+  owned_now q h = true_from_ne_false _ (λ free. some (tree.get key_cmp now q) refl h (none_there free)) where
     none_there : is_owned owner q ≡ false → records_at now q ≡ []
     none_there free = (after q).exact
         ∙ records_stay rs (zone_of_map origin class part) q (records_at part q)
         (false_from_ne_true _ (λ e. true≢false (sym (names q e) ∙ free)))
         ∙ ap records_in (opened q ∙ ap (λ b. cond b (tree.get key_cmp m q) None) free)
 
-    by : (b : Bool) → is_owned owner q ≡ b → (o : Option SetValue) → tree.get key_cmp now q ≡ o → is_some o ≡ true
-        → b ≡ true
-    by true e o f t = refl
-    by false e (Some s) f t = absurd (((after q).fits s f).filled (ap records_in (sym f) ∙ none_there e))
-    by false e None f t = absurd cc
+    some : (o : Option SetValue) → tree.get key_cmp now q ≡ o → is_some o ≡ true → records_at now q ≡ [] → ⊥
+    some (Some s) e t none = ((after q).fits s e).filled (ap records_in (sym e) ∙ none)
+    some None e t none = absurd cc
 
 -- ---- what an outcome has of one owner
 

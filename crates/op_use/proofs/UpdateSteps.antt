@@ -22,9 +22,7 @@ use Rattle.std.proofs.lemmas.Bool.{cond-false, cond-true}
 use Rattle.std.proofs.lemmas.List.{length-map}
 use Rattle.std.specs.BTreeMap as tree
 use Rattle.std.specs.BTreeMap.{BTreeMap}
-use Rattle.std.specs.Prelude.{Bool, List, None, Some, [], cond, false, length, nat_le, not, true, ◌&&◌, ◌||◌}
-use Rattle.std.specs.Prelude.{◌∷◌}
-use Rattle.std.specs.Prelude.{◌≡◌}
+use Rattle.std.specs.Prelude.{Bool, List, None, Some, [], cond, false, length, nat_le, not, true, ◌&&◌, ◌||◌, ◌∷◌, ◌≡◌}
 
 -- whether a record stays, by the map's records
 pub counted : (origin : NameValue) (class : DNSClass) (m : BTreeMap RrKey SetValue) (r : Record RData)

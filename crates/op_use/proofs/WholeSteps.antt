@@ -15,10 +15,8 @@ use Rattle.op_use.specs.Applying.{records_at, records_in, zone_of_map}
 use Rattle.op_use.specs.MapFaults.{complete_at, is_by_value, there_under}
 use Rattle.op_use.specs.MapUpdates.{IsAfter, names_set}
 use Rattle.op_use.specs.NamedChanges.{datum_of, is_data_of}
-use Rattle.op_use.specs.Server.{StepCode, Sections, answer, collected, fault, is_met}
-use Rattle.op_use.specs.Server.{is_of_zone, is_same_key}
+use Rattle.op_use.specs.Server.{StepCode, Sections, answer, collected, fault, is_met, is_of_zone, is_same_key, use_of}
 use Rattle.rr.specs.Record.{record_key}
-use Rattle.op_use.specs.Server.{use_of}
 use Rattle.rr.specs.RecordSet.{SetValue}
 use Rattle.rr.specs.SetChanges.{has_data_of}
 use Rattle.rr.specs.SetUpdates.{last_ttl}

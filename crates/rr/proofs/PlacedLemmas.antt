@@ -92,10 +92,6 @@ present_fits [] = omega arith
 present_fits (None ∷ ps) = omega (arith, present_fits ps)
 present_fits (Some x ∷ ps) = omega (arith, present_fits ps)
 
-pub nowhere_one : (r : Record RData) (xs : List (Record RData)) → list_any (has_data_of r) xs ≡ false
-    → list_any (has_data_of_one (r ∷ [])) xs ≡ false
-nowhere_one r xs none = any_one r xs ∙ none
-
 -- one more place is looked at
 pub scan_more : (r : Record RData) (ps : Places) (i : ℕ) (o : Option (Record RData)) → i < length ps
     → o ≡ get_or ps i o → list_any (has_data_of r) (present (take i ps)) ≡ false

@@ -1,10 +1,10 @@
 -- Laws of record sets.
 use Rattle.std.proofs.Common.{ℕ, Bool, true, false, not, cond, List, [], ◌∷◌, ◌≡◌, ◌≢◌, ◌<◌, ◌||◌, ◌&&◌, ◌++◌, nat_eq}
-use Rattle.std.proofs.Common.{nat_le, refl, sym, ap, subst, ◌∙◌, length, filter, arith, if◌then◌else◌}
+use Rattle.std.proofs.Common.{nat_le, refl, sym, ap, subst, ◌∙◌, length, filter, arith, if◌then◌else◌, ⊎_elim}
 use Rattle.std.specs.List.{list_any, AllByRecursion, IsDistinct}
 use Rattle.std.specs.Ordering.{on}
 use Rattle.std.specs.Cmp.{IsEquivalence, nat_eq_equiv}
-use Rattle.std.proofs.lemmas.Bool.{cond-true, cond-false, or_parts, not-false, leb-false}
+use Rattle.std.proofs.lemmas.Bool.{cond-true, cond-false, or_parts, not-false, leb-false, or_cases}
 use Rattle.std.proofs.lemmas.List.{append-nil}
 use Rattle.base_data.specs.Kinds.{type_of_data}
 use Rattle.base_data.specs.declared.rdata.RData.{RData}
@@ -14,8 +14,6 @@ use Rattle.base_data.specs.declared.rdata.RData.TheVariants as kinds
 use Rattle.base_data.proofs.EqualData.{one_type}
 use Rattle.base.specs.declared.record_type.RecordType.{RecordType}
 use Rattle.base.specs.declared.record_type.RecordType.TheVariants as types
-use Rattle.std.proofs.Common.{⊎_elim}
-use Rattle.std.proofs.lemmas.Bool.{or_cases}
 use Rattle.std.proofs.Math.Bool.{or-true}
 use Rattle.rr.specs.declared.record.Record.{Record}
 use Rattle.rr.specs.RecordSet.{IsTidy, SetValue, is_ns, is_soa, same_entry, same_entry-equiv}

@@ -7,7 +7,7 @@ use Rattle.rr.specs.SetUpdates.{has_data_of_one, without, without_data}
 use Rattle.rr.specs.SortedData.{IsSortedDataOf}
 use Rattle.rr.specs.declared.record.Record.{Record}
 use Rattle.std.proofs.Common.{ap, arith, get_or, refl, sym, ◌∙◌}
-use Rattle.std.proofs.lemmas.Bool.{cond-false, or_parts}
+use Rattle.std.proofs.lemmas.Bool.{cond-false, or_parts, true_from_ne_false}
 use Rattle.std.proofs.lemmas.List.Filters.{length-filter_both}
 use Rattle.std.proofs.Math.Bool.{or-false}
 use Rattle.std.specs.Borrow.{Bor}
@@ -60,13 +60,9 @@ pub none_went : (rs xs : List (Record RData)) → length (without rs xs) ≡ len
 none_went rs [] e = refl
 none_went rs (x ∷ xs) e = none_at rs x xs (has_data_of_one rs x) (none_went rs xs) (fewer rs xs) e
 
-is_true : (b : Bool) → (b ≡ false → ⊥) → true ≡ b
-is_true true h = refl
-is_true false h = absurd (h refl)
-
 pub some_went : (rs xs : List (Record RData)) → length (without rs xs) ≢ length xs
     → true ≡ list_any (has_data_of_one rs) xs
-some_went rs xs less = is_true _ (λ none. less (ap length (without_none rs xs none)))
+some_went rs xs less = sym (true_from_ne_false _ (λ none. less (ap length (without_none rs xs none))))
 
 pub set_stays : (rs : List (Record RData)) (s : SetValue) → list_any (has_data_of_one rs) s.records ≡ false
     → without_data rs s ≡ s

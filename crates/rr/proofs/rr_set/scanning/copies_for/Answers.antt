@@ -1,9 +1,8 @@
-use Rattle.std.proofs.Common.{sym, ◌∙◌, ap, ◌==◌, ◌<◌, arith, length}
+use Rattle.std.proofs.Common.{sym, ◌∙◌, ap, ◌==◌, ◌<◌, arith, length, not, refl, subst, ◌≤◌}
 use Rattle.rr.proofs.SetSteps.{any_found, any_passed, copy_pushed, copy_skipped, replaced_all, within_push}
 use Rattle.rr.proofs.rr_set.scanning.copies_for.Goals as goal
 use Rattle.rr.proofs.rr_set.scanning.copies_for.Goals.{then-eq+in_ok-push_copy, else-eq}
 use Rattle.std.specs.List.{AllByRecursion, list_any}
-use Rattle.std.proofs.Common.{not, refl, subst, ◌≤◌}
 use Rattle.std.proofs.lemmas.List.{take_all}
 use Rattle.rr.specs.SetChanges.{has_data_of, renewed}
 

@@ -1,4 +1,5 @@
-use Rattle.rr.proofs.PlacedLemmas.{Places, count_taken, nowhere_one, only_one, placed_taken, without_here}
+use Rattle.rr.proofs.Around.{any_one}
+use Rattle.rr.proofs.PlacedLemmas.{Places, count_taken, only_one, placed_taken, without_here}
 use Rattle.rr.proofs.WithoutSteps.{without_none}
 use Rattle.rr.proofs.rr_set.placed_records.PlacedRecords.take_data.Goals as goal
 use Rattle.rr.specs.PlacedRecords.{IsPlaced, present}
@@ -10,14 +11,14 @@ use Rattle.std.specs.Prelude.{Some}
 
 pub returns-in_default-clause-went : goal.returns-in_default-clause-went
 returns-in_default-clause-went c =
-    sym (nowhere_one c.args.entry.now (present c.self.inside.places.items) c.in_default.ensures)
+    sym (any_one c.args.entry.now (present c.self.inside.places.items) ∙ c.in_default.ensures)
     ∙ ap (list_any (has_data_of_one (c.args.entry.now ∷ []))) c.self.view_is
 
 pub returns-in_default-clause-ok : goal.returns-in_default-clause-ok
 returns-in_default-clause-ok c =
     let xs = present c.self.inside.places.items in
     subst (λ ys. ys ≡ without (c.args.entry.now ∷ []) ys) c.self.view_is
-    (sym (without_none (c.args.entry.now ∷ []) xs (nowhere_one c.args.entry.now xs c.in_default.ensures)))
+    (sym (without_none (c.args.entry.now ∷ []) xs (any_one c.args.entry.now xs ∙ c.in_default.ensures)))
 
 pub put_at-requires : goal.put_at-requires
 put_at-requires c = slice_get_within c.self.inside.places.items c.in-Some.place (Some c.in-Some.ensures.known)
