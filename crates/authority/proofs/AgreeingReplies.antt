@@ -1,7 +1,7 @@
 -- Zones that answer alike reply alike.
 use Rattle.authority.specs.Agreement.{with_sets}
 use Rattle.authority.specs.Answer.{AnswerValue, answer}
-use Rattle.authority.specs.Reply.{answer_to, header_refusal, only_code, question_refusal, refused_or}
+use Rattle.authority.specs.Reply.{answer_to, header_refusal, question_refusal, refused_or}
 use Rattle.base.specs.names.Labels.{NameValue}
 use Rattle.base.specs.names.Parents.{is_within}
 use Rattle.base.specs.RrKey.{key_cmp, key_of}

@@ -8,7 +8,7 @@ use Rattle.authority.specs.Lookup.{Alias, Cut, Data, Finding, NoName, Outside, l
 use Rattle.authority.specs.Lookup.{records_of}
 use Rattle.authority.specs.Reply.{answer_to, framed, header_refusal, question_refusal, refused_or, reply}
 use Rattle.base.specs.names.Labels.{NameValue}
-use Rattle.base.specs.names.NameOrder.{folded, folded_labels, lowered, same_lower, same_name}
+use Rattle.base.specs.names.NameOrder.{folded, lowered, same_lower, same_name}
 use Rattle.base.specs.RecordType.{same_type}
 use Rattle.base.specs.RrKey.{key_of}
 use Rattle.base.specs.declared.record_type.RecordType.TheVariants as types
@@ -30,7 +30,7 @@ use Rattle.std.proofs.lemmas.List.{drop-map, length-map, map-append}
 use Rattle.std.proofs.lemmas.Simd.{map-map}
 use Rattle.std.specs.Char.{to_ascii_lowercase}
 use Rattle.std.specs.List.{cons_option, filter_map, fold, list_any}
-use Rattle.std.specs.Prelude.{Bool, List, None, Option, Some, [], cond, false, map, not, option_map, suc, true, zero, ℕ}
+use Rattle.std.specs.Prelude.{Bool, List, None, Some, [], cond, false, map, not, option_map, suc, true, zero, ℕ}
 use Rattle.std.specs.Prelude.{◌&&◌, ◌||◌, ◌∷◌, ◌≡◌}
 
 -- what is asked of records by their owners, is asked of owners in lower case

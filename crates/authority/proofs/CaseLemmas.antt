@@ -1,6 +1,6 @@
 -- The letter case of a name changes nothing of what a zone has for it.
 use Rattle.authority.specs.LetterCase.{finding_lowered}
-use Rattle.authority.specs.Lookup.{Alias, Cut, Data, Finding, NoName, Outside, alias_at, alias_else, alias_in, alias_or}
+use Rattle.authority.specs.Lookup.{Finding, NoName, Outside, alias_at, alias_else, alias_in, alias_or}
 use Rattle.authority.specs.Lookup.{asked, at_source, cut_else, cut_over, encloser, encloses, end_that_exists}
 use Rattle.authority.specs.Lookup.{ends_below}
 use Rattle.authority.specs.Lookup.{exists, has_servers, if_below, is_ds, least_ttl, lookup, name_with, owner_lowered}
@@ -9,7 +9,7 @@ use Rattle.base.specs.names.Labels.{NameValue}
 use Rattle.base.specs.names.NameOrder.{folded, folded_labels, lowered, same_lower, same_name}
 use Rattle.base.specs.names.NameOrderLaws.{same_by-is}
 use Rattle.base.specs.names.Parents.{asterisk, is_at_or_below, is_below, is_within, parent}
-use Rattle.base.specs.RrKey.{key_cmp, key_of}
+use Rattle.base.specs.RrKey.{key_of}
 use Rattle.base.specs.declared.dns_class.DNSClass.{DNSClass}
 use Rattle.base.specs.declared.record_type.RecordType.TheVariants as types
 use Rattle.base.specs.declared.record_type.RecordType.{RecordType}
@@ -31,7 +31,7 @@ use Rattle.std.specs.List.{ends_with, filter, find, flat_map, list_any}
 use Rattle.std.specs.Option.{option_or}
 use Rattle.std.specs.Prelude.{Bool, List, None, Option, Some, [], cond, false, is_some, map, nat_eq, not, option_map}
 use Rattle.std.specs.Prelude.{true}
-use Rattle.std.specs.Prelude.{unwrap_or, ℕ, ◌&&◌, ◌||◌, ◌∷◌, ◌≡◌}
+use Rattle.std.specs.Prelude.{ℕ, ◌&&◌, ◌||◌, ◌∷◌, ◌≡◌}
 
 -- the records of a name, with their owners in lower case
 pub lowered_records : (class : DNSClass) (n : NameValue) (ds : List Datum)

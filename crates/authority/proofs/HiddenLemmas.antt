@@ -5,7 +5,7 @@ use Rattle.authority.proofs.HighestCut.{cut_on, last_cut, none_at_end, none_drop
 use Rattle.authority.proofs.SourceLemmas.{source_holds}
 use Rattle.authority.proofs.WayLemmas.{below_more, no_way}
 use Rattle.authority.specs.Agreement.{above_cuts, is_hidden}
-use Rattle.authority.specs.Lookup.{Cut, Outside, at_source, cut_else, cut_over, encloser, encloses, end_that_exists}
+use Rattle.authority.specs.Lookup.{Outside, at_source, cut_else, cut_over, encloser, encloses, end_that_exists}
 use Rattle.authority.specs.Lookup.{ends_below, exists, has_servers, if_below, is_ds, lookup, name_with, source, way}
 use Rattle.authority.specs.Lookup.{wildcard_below}
 use Rattle.base.proofs.names.BelowLemmas.{lies_in, lies_so}
@@ -19,11 +19,10 @@ use Rattle.base.specs.declared.record_type.RecordType.TheVariants as types
 use Rattle.base.specs.declared.record_type.RecordType.{RecordType}
 use Rattle.base.specs.declared.rr_key.RrKey.{RrKey}
 use Rattle.op_use.specs.Zone.{Zone, is_owned}
-use Rattle.std.proofs.Common.{ap, append_assoc, drop, refl, subst, sym, ◌++◌, ◌∙◌}
+use Rattle.std.proofs.Common.{ap, drop, refl, sym, ◌++◌, ◌∙◌}
 use Rattle.std.proofs.lemmas.Bool.{false≢true, or_right}
 use Rattle.std.proofs.lemmas.List.Folds.{find-append}
 use Rattle.std.proofs.lemmas.List.{map-append}
-use Rattle.std.proofs.lemmas.Option.{same_Some}
 use Rattle.std.proofs.lemmas.Str.Ascii.{lowercase-lowercase}
 use Rattle.std.specs.Char.{to_ascii_lowercase}
 use Rattle.std.specs.Cmp.{tied_itself}

@@ -5,12 +5,12 @@ use Rattle.authority.proofs.InsideLemmas.{lookup_inside, within_itself}
 use Rattle.authority.proofs.LawLemmas.{cut_below, cut_within}
 use Rattle.authority.specs.Agreement.{inside}
 use Rattle.authority.specs.Answer.{answer}
-use Rattle.authority.specs.Lookup.{Cut, lookup}
+use Rattle.authority.specs.Lookup.{lookup}
 use Rattle.authority.specs.Reply.{framed, reply}
 use Rattle.base.proofs.names.KeyLemmas.{key_cmp-exact}
 use Rattle.base.specs.names.Labels.{NameValue}
 use Rattle.base.specs.names.Parents.{is_at_or_below, is_within}
-use Rattle.base.specs.RrKey.{key_cmp, key_of}
+use Rattle.base.specs.RrKey.{key_of}
 use Rattle.base.specs.declared.record_type.RecordType.TheVariants as types
 use Rattle.base.specs.declared.record_type.RecordType.{RecordType}
 use Rattle.base.specs.declared.rr_key.RrKey.{RrKey}

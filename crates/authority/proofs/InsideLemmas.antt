@@ -1,15 +1,15 @@
 -- Sets that stand neither at the origin nor below it are never looked at.
-use Rattle.authority.proofs.AgreementLemmas.{below_by, kept_agree, lookup_agrees, records_agree}
+use Rattle.authority.proofs.AgreementLemmas.{below_by, kept_agree, lookup_agrees}
 use Rattle.authority.proofs.SourceLemmas.{source_holds}
 use Rattle.authority.proofs.WayLemmas.{starts}
 use Rattle.authority.specs.Agreement.{Agree, with_sets}
 use Rattle.authority.specs.Lookup.{Outside, at_source, cut_else, cut_over, encloser, encloses, end_that_exists, exists}
-use Rattle.authority.specs.Lookup.{exists_among, lookup, name_with, source, wildcard_below}
+use Rattle.authority.specs.Lookup.{lookup, name_with, source, wildcard_below}
 use Rattle.base.proofs.names.BelowLemmas.{lies_in, lies_so}
 use Rattle.base.specs.names.Labels.{NameValue}
 use Rattle.base.specs.names.NameOrder.{folded, lowered}
 use Rattle.base.specs.names.NameOrderLaws.{same_lower-exact}
-use Rattle.base.specs.names.Parents.{asterisk, is_at_or_below, is_below, is_within}
+use Rattle.base.specs.names.Parents.{asterisk, is_at_or_below, is_within}
 use Rattle.base.specs.RrKey.{key_cmp, key_of}
 use Rattle.base.specs.declared.record_type.RecordType.TheVariants as types
 use Rattle.base.specs.declared.record_type.RecordType.{RecordType}
@@ -21,7 +21,7 @@ use Rattle.std.specs.Cmp.{first_so}
 use Rattle.std.specs.FinMap as fin
 use Rattle.std.specs.FinMap.{FinMap}
 use Rattle.std.specs.List.{filter, list_any}
-use Rattle.std.specs.Prelude.{Bool, List, None, Option, Some, [], cond, false, is_some, map, true, ℕ, ◌||◌, ◌∷◌, ◌≡◌}
+use Rattle.std.specs.Prelude.{Bool, List, Some, [], cond, false, is_some, map, true, ℕ, ◌||◌, ◌∷◌, ◌≡◌}
 
 -- what lies in a name that lies in another lies in that
 pub within_too : (a n b : NameValue) → is_within a n ≡ true → is_at_or_below n b ≡ true → is_at_or_below a b ≡ true

@@ -22,7 +22,7 @@ use Rattle.op_use.specs.Server.{StepCode, is_any}
 use Rattle.op_use.specs.Zone.{Zone}
 use Rattle.rr.specs.Record.{type_of_record}
 use Rattle.rr.specs.declared.record.Record.{Record}
-use Rattle.std.proofs.Common.{ap, append_assoc, refl, subst, sym, ◌++◌, ◌∙◌}
+use Rattle.std.proofs.Common.{append_assoc, refl, subst, sym, ◌++◌}
 use Rattle.std.proofs.lemmas.List.{append-nil}
 use Rattle.std.proofs.lemmas.Map.Keys.{IsDistinct-cons, IsDistinct-head, IsDistinct-tail}
 use Rattle.std.specs.List.{AllByRecursion, IsDistinct, filter_map, fold}

@@ -2,16 +2,14 @@
 use Rattle.authority.proofs.FirstKey.{is_false}
 use Rattle.authority.proofs.StandingLemmas.{OfFound, alias_of, all-append, by_test, each_shown, of_lookup}
 use Rattle.authority.specs.Answer.{is_given, owns}
-use Rattle.authority.specs.Lookup.{Alias, Cut, Data, Finding, NoName, Outside, alias_at, alias_else, alias_in, asked}
-use Rattle.authority.specs.Lookup.{at_source, cut_else, cut_over, least_ttl, lookup, record_of, records, records_of}
+use Rattle.authority.specs.Lookup.{Finding}
+use Rattle.authority.specs.Lookup.{least_ttl, lookup, record_of, records, records_of}
 use Rattle.authority.specs.Lookup.{shown}
-use Rattle.authority.specs.Lookup.{source}
 use Rattle.authority.specs.Once.{HasProperSets, IsProper, same_record}
 use Rattle.base.proofs.names.KeyLemmas.{key_cmp-exact, key_cmp-total}
 use Rattle.base.specs.names.Labels.{NameValue}
 use Rattle.base.specs.names.NameOrder.{folded, lowered, same_name}
 use Rattle.base.specs.names.NameOrderLaws.{same_by-equiv, same_lower-exact}
-use Rattle.base.specs.names.Parents.{is_within}
 use Rattle.base.specs.RecordType.{same_type}
 use Rattle.base.specs.RrKey.{key_cmp, key_of}
 use Rattle.base.specs.declared.dns_class.DNSClass.{DNSClass}
@@ -24,7 +22,7 @@ use Rattle.base_data.specs.RData.{is_empty_data}
 use Rattle.base_data.specs.SameData.{same_data}
 use Rattle.base_data.specs.declared.rdata.RData.{RData}
 use Rattle.op_use.specs.Server.{is_any, is_cname}
-use Rattle.op_use.specs.Zone.{Datum, Zone, at, is_owned}
+use Rattle.op_use.specs.Zone.{Datum, Zone, is_owned}
 use Rattle.rr.specs.Record.{type_of_record}
 use Rattle.rr.specs.declared.record.Record.{Record}
 use Rattle.std.proofs.Common.{ap, refl, rules, subst, sym, ◌++◌, ◌∙◌}

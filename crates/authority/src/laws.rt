@@ -160,8 +160,8 @@ pub fn the_last_name_decides()
         × EndsFor z t led.last (answer z t room [] n) }
 {}
 
-/// Sets strictly below a cut change no answer but the additional records of a referral, which are glue, and so nothing
-/// of an answer without authorities (RFC 1034, 4.2.1; 4.3.2, 3b).
+/// Sets strictly below a cut change nothing but the additional records of a referral, where they are glue, and so
+/// nothing of an answer without authorities (RFC 1034, 4.2.1; 4.3.2, 3b).
 pub fn sets_below_cuts_are_glue_alone()
     ensures found { (z : Zone) (t : Kind) (n : NameValue)
         → the_finding z t n ≡ the_finding (above_cuts z) t n }
