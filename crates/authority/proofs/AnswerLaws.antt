@@ -2,7 +2,7 @@
 use Rattle.authority.specs.Answer.{AnswerValue, answer, answer_found, negative, of_data, owns, with_authority}
 use Rattle.authority.specs.Chain.IsChain.{ends, leads}
 use Rattle.authority.proofs.StandingLemmas.{alias_owner}
-use Rattle.authority.specs.Chain.{AreLed, AreNew, IsChain}
+use Rattle.authority.specs.Chain.{AreLed, AreNew, EndsFor, IsChain, authorities_for, code_for}
 use Rattle.authority.specs.Answer.{is_none}
 use Rattle.authority.specs.Lookup.{Alias, Cut, Data, Finding, NoName, Outside, lookup}
 use Rattle.base.specs.names.Labels.{NameValue}
@@ -73,33 +73,6 @@ module _ (z : Zone) (t : RecordType) where
       → (answer z t room [] n).authoritative ≡ false
   referrals_are_clear room n m h = ap (λ f. (answer_found z t room [] n f).authoritative) h ∙ clear_at room n m
 
-  -- no name
-  abbrev IsOfNoName : AnswerValue → Type 0
-  IsOfNoName a = a.code ≡ NXDomain
-      → (last : NameValue) × (lookup z t last ≡ NoName) × (a.authorities ≡ negative z last)
-
-  data_of_name : (done : List (Record RData)) (n : NameValue) (rs : List (Record RData))
-      → IsOfNoName (of_data z t done n rs)
-  data_of_name done n [] = λ h. cc
-  data_of_name done n (r ∷ rs) = λ h. cc
-
-  no_name_by : (room : ℕ) (done : List (Record RData)) (n : NameValue) (f : Finding) → lookup z t n ≡ f
-      → IsOfNoName (answer_found z t room done n f)
-  unfolding answer_found
-  no_name_by room done n Outside e = λ h. cc
-  no_name_by room done n NoName e = λ h. (n, e, refl)
-  no_name_by room done n (Data rs) e = data_of_name done n rs
-  no_name_by room done n (Cut m) e = λ h. cc
-  no_name_by zero done n (Alias r target) e = λ h. cc
-  no_name_by (suc room) done n (Alias r target) e =
-      either IsOfNoName (owns target (done ++ r ∷ [])) (with_authority ServFail (done ++ r ∷ []) [] [])
-      (answer_found z t room (done ++ r ∷ []) target (lookup z t target)) (λ h. cc)
-      (no_name_by room (done ++ r ∷ []) target (lookup z t target) refl)
-
-  pub no_name_is_of_last : (room : ℕ) (n : NameValue) → (answer z t room [] n).code ≡ NXDomain
-      → (last : NameValue) × (lookup z t last ≡ NoName) × ((answer z t room [] n).authorities ≡ negative z last)
-  no_name_is_of_last room n h = no_name_by room [] n (lookup z t n) refl h
-
   -- the chain, after records whose owners it doesn't have
   record IsAfter (n : NameValue) (most : ℕ) (done rs : List (Record RData)) : Type 0 where
     chain : List (Record RData)
@@ -112,11 +85,17 @@ module _ (z : Zone) (t : RecordType) where
     found : (records ≡ []) ⊎ (lookup z t last ≡ Data records)
 
   abbrev IsLed : NameValue → ℕ → List (Record RData) → AnswerValue → Type 0
-  IsLed n most done a = (rs : List (Record RData)) × (a.answers ≡ done ++ rs) × IsAfter n most done rs
+  IsLed n most done a = (rs : List (Record RData)) × (a.answers ≡ done ++ rs) × (after : IsAfter n most done rs)
+      × EndsFor z t after.last a
+
+  -- what is answered for what was found is for what the zone has
+  for_found : (n : NameValue) (f : Finding) (a : AnswerValue) → lookup z t n ≡ f → a.code ≡ code_for f
+      → a.authorities ≡ authorities_for z n f → EndsFor z t n a
+  for_found n f a e c h = inl (c ∙ ap code_for (sym e), h ∙ ap (authorities_for z n) (sym e))
 
   nothing_more : (n : NameValue) (most : ℕ) (done : List (Record RData)) (a : AnswerValue) → a.answers ≡ done
-      → IsLed n most done a
-  nothing_more n most done a e = (
+      → EndsFor z t n a → IsLed n most done a
+  nothing_more n most done a e h = (
     [],
     e ∙ sym (append-nil done),
     record {
@@ -129,11 +108,13 @@ module _ (z : Zone) (t : RecordType) where
       distinct = tt;
       found = inl refl;
     },
+    h,
   )
 
   of_records : (n : NameValue) (most : ℕ) (done rs : List (Record RData)) → lookup z t n ≡ Data rs
       → IsLed n most done (of_data z t done n rs)
   of_records n most done [] e = nothing_more n most done (of_data z t done n []) refl
+      (for_found n (Data []) (of_data z t done n []) e refl refl)
   of_records n most done (r ∷ rs) e = (
     r ∷ rs,
     refl,
@@ -147,14 +128,15 @@ module _ (z : Zone) (t : RecordType) where
       distinct = tt;
       found = inr e;
     },
+    for_found n (Data (r ∷ rs)) (of_data z t done n (r ∷ rs)) e refl refl,
   )
 
-  one_alias : (n target : NameValue) (most : ℕ) (done : List (Record RData)) (r : Record RData) (a : AnswerValue)
-      → lookup z t n ≡ Alias r target → 1 ≤ most → owns n done ≡ false → a.answers ≡ done ++ r ∷ []
-      → IsLed n most done a
-  one_alias n target most done r a e some new h = (
+  one_alias : (n target : NameValue) (most : ℕ) (done : List (Record RData)) (r : Record RData)
+      → lookup z t n ≡ Alias r target → 1 ≤ most → owns n done ≡ false
+      → IsLed n most done (with_authority ServFail (done ++ r ∷ []) [] [])
+  one_alias n target most done r e some new = (
     r ∷ [],
-    h,
+    refl,
     record {
       chain = r ∷ [];
       last = target;
@@ -165,6 +147,7 @@ module _ (z : Zone) (t : RecordType) where
       distinct = (ap (λ o. owns o done) (alias_owner z t n r target e) ∙ new, tt);
       found = inl refl;
     },
+    inr (refl, refl),
   )
 
   alias_before : (n target : NameValue) (most : ℕ) (done : List (Record RData)) (r : Record RData) (a : AnswerValue)
@@ -183,6 +166,7 @@ module _ (z : Zone) (t : RecordType) where
       distinct = (ap (λ o. owns o done) (alias_owner z t n r target e) ∙ new, led.2.distinct);
       found = led.2.found;
     },
+    led.3,
   )
 
   -- one of two answers, the second where the test fails
@@ -194,30 +178,55 @@ module _ (z : Zone) (t : RecordType) where
   led_by : (room : ℕ) (done : List (Record RData)) (n : NameValue) (f : Finding) → lookup z t n ≡ f
       → owns n done ≡ false → IsLed n (suc room) done (answer_found z t room done n f)
   unfolding answer_found
-  led_by room done n Outside e new = nothing_more n (suc room) done (answer_found z t room done n Outside) refl
-  led_by room done n NoName e new = nothing_more n (suc room) done (answer_found z t room done n NoName) refl
+  led_by room done n Outside e new =
+      let a : AnswerValue = answer_found z t room done n Outside in
+      nothing_more n (suc room) done a refl (for_found n Outside a e refl refl)
+  led_by room done n NoName e new =
+      let a : AnswerValue = answer_found z t room done n NoName in
+      nothing_more n (suc room) done a refl (for_found n NoName a e refl refl)
   led_by room done n (Data rs) e new = of_records n (suc room) done rs e
-  led_by room done n (Cut m) e new = nothing_more n (suc room) done (answer_found z t room done n (Cut m)) refl
-  led_by zero done n (Alias r target) e new =
-      one_alias n target 1 done r (with_authority ServFail (done ++ r ∷ []) [] []) e (omega arith) new refl
+  led_by room done n (Cut m) e new =
+      let a : AnswerValue = answer_found z t room done n (Cut m) in
+      nothing_more n (suc room) done a refl (for_found n (Cut m) a e refl refl)
+  led_by zero done n (Alias r target) e new = one_alias n target 1 done r e (omega arith) new
   led_by (suc room) done n (Alias r target) e new =
       let failed : AnswerValue = with_authority ServFail (done ++ r ∷ []) [] [] in
       let more : AnswerValue = answer_found z t room (done ++ r ∷ []) target (lookup z t target) in
       or_else (IsLed n (suc (suc room)) done) (owns target (done ++ r ∷ [])) (owns target (done ++ r ∷ [])) failed
-      more refl (one_alias n target (suc (suc room)) done r failed e (omega arith) new refl)
+      more refl (one_alias n target (suc (suc room)) done r e (omega arith) new)
       (λ fresh. alias_before n target (suc room) done r more e new
       (led_by room (done ++ r ∷ []) target (lookup z t target) refl fresh))
 
+  pub led_to : (room : ℕ) (n : NameValue) → (led : AreLed z t n (room + 1) (answer z t room [] n).answers)
+      × EndsFor z t led.last (answer z t room [] n)
+  led_to room n =
+      let led = led_by room [] n (lookup z t n) refl refl in (
+        record {
+          chain = led.2.chain;
+          last = led.2.last;
+          records = led.2.records;
+          answers_are = led.1 ∙ led.2.answers_are;
+          is_chain = led.2.is_chain;
+          short = omega (arith, led.2.short);
+          distinct = led.2.distinct;
+          found = led.2.found;
+        },
+        led.3,
+      )
+
   pub answers_are_led : (room : ℕ) (n : NameValue) → AreLed z t n (room + 1) (answer z t room [] n).answers
-  answers_are_led room n =
-      let led = led_by room [] n (lookup z t n) refl refl in
-      record {
-        chain = led.2.chain;
-        last = led.2.last;
-        records = led.2.records;
-        answers_are = led.1 ∙ led.2.answers_are;
-        is_chain = led.2.is_chain;
-        short = omega (arith, led.2.short);
-        distinct = led.2.distinct;
-        found = led.2.found;
-      }
+  answers_are_led room n = (led_to room n).0
+
+  no_name_by : (f : Finding) → code_for f ≡ NXDomain → f ≡ NoName
+  no_name_by NoName h = refl
+  no_name_by f h = cc
+
+  pub no_name_is_of_last : (room : ℕ) (n : NameValue) → (answer z t room [] n).code ≡ NXDomain
+      → (last : NameValue) × (lookup z t last ≡ NoName) × ((answer z t room [] n).authorities ≡ negative z last)
+  no_name_is_of_last room n h = let led = led_to room n in go led.0.last led.1 where
+    go : (last : NameValue) → EndsFor z t last (answer z t room [] n) → (last : NameValue)
+        × (lookup z t last ≡ NoName) × ((answer z t room [] n).authorities ≡ negative z last)
+    go last (inl (code, authorities)) =
+        let none : lookup z t last ≡ NoName = no_name_by (lookup z t last) (sym code ∙ h) in
+        (last, none, authorities ∙ ap (authorities_for z last) none)
+    go last (inr (code, authorities)) = cc

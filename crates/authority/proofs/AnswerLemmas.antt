@@ -5,7 +5,7 @@ use Rattle.authority.specs.Answer.{answer, answer_found, end_like, extras, negat
 use Rattle.authority.specs.Answer.{with_authority}
 use Rattle.authority.specs.Found.{IsFound, answered}
 use Rattle.authority.specs.Lookup.{Alias, Cut, Data, NoName, Outside, alias_in, alias_or, least_ttl, lookup}
-use Rattle.authority.specs.Lookup.{record_of, records, shown, target_of}
+use Rattle.authority.specs.Lookup.{record_of, shown, target_of}
 use Rattle.authority.specs.ZoneRef.{AreUnderKeys}
 use Rattle.authority.specs.declared.found.Found.TheVariants as codes
 use Rattle.base.specs.names.Labels.{NameValue}
@@ -66,27 +66,7 @@ alias_is : (class : DNSClass) (owner : NameValue) (s : SetValue) (r : Record RDa
 alias_is class owner s r target h =
     alias_among class owner (least_ttl (shown (data_in_set s))) r target (shown (data_in_set s)) h
 
--- each kind of what was found
-given_outside : (z : Zone) (t : RecordType) (room : ℕ) (done : List (Record RData)) (n : NameValue)
-    → answer_found z t room done n Outside ≡ with_authority NoError done [] []
-unfolding answer_found
-given_outside z t room done n = refl
-
-given_no_name : (z : Zone) (t : RecordType) (room : ℕ) (done : List (Record RData)) (n : NameValue)
-    → answer_found z t room done n NoName ≡ with_authority NXDomain done (negative z n) []
-unfolding answer_found
-given_no_name z t room done n = refl
-
-given_data : (z : Zone) (t : RecordType) (room : ℕ) (done : List (Record RData)) (n : NameValue) (rs : List
-    (Record RData)) → answer_found z t room done n (Data rs) ≡ of_data z t done n rs
-unfolding answer_found
-given_data z t room done n rs = refl
-
-given_cut : (z : Zone) (t : RecordType) (room : ℕ) (done : List (Record RData)) (n m : NameValue)
-    → answer_found z t room done n (Cut m) ≡ referring z done (records z m (key_of m types.NS))
-unfolding answer_found
-given_cut z t room done n m = refl
-
+-- what is answered of an alias
 given_last : (z : Zone) (t : RecordType) (room : ℕ) (done : List (Record RData)) (n : NameValue) (r : Record RData)
     (target : NameValue) → room ≡ 0
     → answer_found z t room done n (Alias r target) ≡ with_authority ServFail (done ++ r ∷ []) [] []
@@ -113,22 +93,26 @@ module _ (origin : NameValue) (class : DNSClass) (m : BTreeMap RrKey SetValue) (
   z = zone_of_map origin class m
 
   pub answer_outside : lookup z t n ≡ Outside → answer z t room done n ≡ with_authority NoError done [] []
-  answer_outside h = ap (answer_found z t room done n) h ∙ given_outside z t room done n
+  unfolding answer_found
+  answer_outside h = ap (answer_found z t room done n) h
 
   pub answer_no_name : lookup z t n ≡ NoName → answer z t room done n ≡ with_authority NXDomain done (negative z n) []
-  answer_no_name h = ap (answer_found z t room done n) h ∙ given_no_name z t room done n
+  unfolding answer_found
+  answer_no_name h = ap (answer_found z t room done n) h
 
   pub answer_cut : (found : Bor SetValue) → AreUnderKeys m → IsFound class m n (codes.Cut found) (lookup z t n)
       → answer z t room done n ≡ referring z done (answered class (end_like found.now.name n) found.now)
+  unfolding answer_found
   answer_cut found own h =
       let s : SetValue = found.now in
       let there = h.2 in
-      ap (answer_found z t room done n) h.1 ∙ given_cut z t room done n h.0
+      ap (answer_found z t room done n) h.1
       ∙ ap (referring z done) (records_there origin class m h.0 (key_of h.0 types.NS) s there
       ∙ ap (λ (x : NameValue). answered class x s) (sym (cut_is_end z t n h.0 m s own h.1 there)))
 
   pub answer_data : (rs : List (Record RData)) → lookup z t n ≡ Data rs → answer z t room done n ≡ of_data z t done n rs
-  answer_data rs h = ap (answer_found z t room done n) h ∙ given_data z t room done n rs
+  unfolding answer_found
+  answer_data rs h = ap (answer_found z t room done n) h
 
   pub answer_no_data : lookup z t n ≡ Data [] → answer z t room done n ≡ with_authority NoError done (negative z n) []
   answer_no_data h = answer_data [] h

@@ -7,9 +7,10 @@ use Rattle.base_data.specs.declared.rdata.RData.{RData}
 use Rattle.op_use.specs.NamedChanges.{datum_of}
 use Rattle.op_use.specs.Zone.{Datum}
 use Rattle.rr.specs.declared.record.Record.{Record}
-use Rattle.std.proofs.Common.{ap, drop, refl, ◌++◌, ◌∙◌}
+use Rattle.std.proofs.Common.{ap, drop, sym, ◌++◌, ◌∙◌}
+use Rattle.std.proofs.lemmas.Simd.{map-map}
 use Rattle.std.specs.List.{fold}
-use Rattle.std.specs.Prelude.{List, None, Option, Some, [], map, min, ℕ, ◌∷◌, ◌≡◌}
+use Rattle.std.specs.Prelude.{List, None, Option, Some, [], map, min, ℕ, ◌≡◌}
 
 -- what the least TTL comes to of data that is left, after some
 abbrev pub least_after : Option ℕ → List Datum → ℕ
@@ -20,10 +21,6 @@ least_after (Some ttl) ds = fold (λ (least : ℕ) (e : Datum). min least e.ttl)
 abbrev pub shown_from : List (Record RData) → ℕ → List Datum
 shown_from rs i = shown (map datum_of (drop i rs))
 
-map_both : {X Y Z : Type 0} (f : X → Y) (g : Y → Z) (xs : List X) → map (λ x. g (f x)) xs ≡ map g (map f xs)
-map_both f g [] = refl
-map_both f g (x ∷ xs) = ap (λ ys. g (f x) ∷ ys) (map_both f g xs)
-
 -- the records of a negative answer, before the first
 pub negative_begins : (class : DNSClass) (owner : NameValue) (least : ℕ) (items entries records : List (Record RData))
     → items ≡ [] → entries ≡ records → least ≡ least_ttl (shown (map datum_of entries))
@@ -31,6 +28,6 @@ pub negative_begins : (class : DNSClass) (owner : NameValue) (least : ℕ) (item
     ≡ map as_negative (records_of class owner (map datum_of records))
 negative_begins class owner least items entries records none same is =
     ap (λ xs. xs ++ map (λ (d : Datum). as_negative (record_of class owner least d)) (shown_from entries 0)) none
-    ∙ map_both (record_of class owner least) as_negative (shown (map datum_of entries))
+    ∙ sym (map-map as_negative (record_of class owner least) (shown (map datum_of entries)))
     ∙ ap (λ ttl. map as_negative (map (record_of class owner ttl) (shown (map datum_of entries)))) is
     ∙ ap (λ (xs : List (Record RData)). map as_negative (records_of class owner (map datum_of xs))) same

@@ -64,7 +64,7 @@ entries_sorted (e ∷ es) s =
     ∙ entries_sorted es (sorted_tail key_cmp e.0 (keys_of es) s)
 
 -- the entries of a zone are those of the map
-entries_are : (es : List (RrKey × SetValue)) → IsStrictlySortedBy key_cmp (keys_of es)
+pub entries_are : (es : List (RrKey × SetValue)) → IsStrictlySortedBy key_cmp (keys_of es)
     → fin.entries (fin.from_entries {R = key_cmp} (map entry_of es)) ≡ map entry_of es
 entries_are es s =
     let m : FinMap key_cmp (List Datum) = fin.from_entries (map entry_of es) in

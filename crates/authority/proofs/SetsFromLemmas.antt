@@ -16,6 +16,7 @@ use Rattle.std.proofs.Math.Bool.{and-true}
 use Rattle.std.proofs.lemmas.Bool.{cond-false, cond-true, false≢true}
 use Rattle.std.proofs.lemmas.Map.Keys.{sorted_head, sorted_tail}
 use Rattle.std.specs.BTreeMap.Range.{entries_between, range_contains}
+use Rattle.std.specs.Cmp.{tied_itself}
 use Rattle.std.specs.List.Sorted.{IsStrictlySortedBy}
 use Rattle.std.specs.List.{AllByRecursion, filter, flat_map}
 use Rattle.std.specs.Map.{keys_of}
@@ -37,14 +38,11 @@ after_too k a b le less = go (key_cmp k a) refl le where
   go Equal e h = ap (λ q. is_le (key_cmp q b)) (key_cmp-exact k a e) ∙ ap is_le less
   go Greater e h = cc
 
-both : (a b : Bool) → a ≡ true → b ≡ true → (a && b) ≡ true
-both a b p q = ap (λ x. x && b) p ∙ q
-
 all_from : (k a : RrKey) (es : List (RrKey × SetValue)) → is_le (key_cmp k a) ≡ true
     → AllByRecursion (λ q. key_cmp a q ≡ Less) (keys_of es) → filter (stands_from k) es ≡ es
 all_from k a [] le h = refl
 all_from k a (e ∷ es) le (h, hs) =
-    cond-true _ _ _ (both (is_le (key_cmp k e.0)) true (after_too k a e.0 le h) refl)
+    cond-true _ _ _ (ap (λ b. b && true) (after_too k a e.0 le h))
     ∙ ap (λ xs. e ∷ xs) (all_from k a es le hs)
 
 -- Where entries are in order, those from a key on are an end of them.
@@ -71,11 +69,7 @@ not_from : (a k : RrKey) → key_cmp a k ≡ Less → (is_le (key_cmp k a) && tr
 not_from a k h = ap (λ o. is_le o && true) (key_cmp-total.antisymm k a ∙ ap ordering_reverse h)
 
 to_itself : (k : RrKey) → is_le (key_cmp k k) ≡ true
-to_itself k = go (key_cmp k k) refl where
-  go : (o : Ordering) → key_cmp k k ≡ o → is_le (key_cmp k k) ≡ true
-  go Less e = ap is_le e
-  go Equal e = ap is_le e
-  go Greater e = cc (key_cmp-total.antisymm k k ∙ ap ordering_reverse e)
+to_itself k = ap is_le (tied_itself key_cmp-total k)
 
 at_place : (P : RrKey → Type 0) (front : List (RrKey × SetValue)) (e : RrKey × SetValue)
     (es : List (RrKey × SetValue)) → AllByRecursion P (keys_of (front ++ e ∷ es)) → P e.0
@@ -86,7 +80,7 @@ at_place P (x ∷ front) e es (h, hs) = at_place P front e es hs
 from_key : (front : List (RrKey × SetValue)) (e : RrKey × SetValue) (es : List (RrKey × SetValue))
     → IsStrictlySortedBy key_cmp (keys_of (front ++ e ∷ es)) → filter (stands_from e.0) (front ++ e ∷ es) ≡ e ∷ es
 from_key [] e es s =
-    cond-true _ _ _ (both (is_le (key_cmp e.0 e.0)) true (to_itself e.0) refl) ∙ ap (λ xs. e ∷ xs)
+    cond-true _ _ _ (ap (λ b. b && true) (to_itself e.0)) ∙ ap (λ xs. e ∷ xs)
     (all_from e.0 e.0 es (to_itself e.0) (sorted_head key_cmp e.0 (keys_of es) s))
 from_key (x ∷ front) e es s =
     cond-false _ _ _ (not_from x.0 e.0 (at_place (λ q. key_cmp x.0 q ≡ Less) front e es

@@ -13,13 +13,22 @@ use Rattle.base.specs.declared.rr_key.RrKey.{RrKey}
 use Rattle.op_use.specs.Applying.{zone_of_map}
 use Rattle.op_use.specs.Zone.{Zone}
 use Rattle.rr.specs.RecordSet.{SetValue}
-use Rattle.std.proofs.Common.{ap, append_assoc, drop, refl, sym, ◌++◌, ◌∙◌}
+use Rattle.std.proofs.Common.{ap, append_assoc, drop, refl, subst, sym, ◌++◌, ◌∙◌}
 use Rattle.std.proofs.lemmas.Bool.{cond-false, cond-true, false≢true, or_parts}
+use Rattle.std.proofs.lemmas.Option.{same_Some}
 use Rattle.std.specs.Bool.{then_some}
 use Rattle.std.specs.BTreeMap as tree
 use Rattle.std.specs.BTreeMap.{BTreeMap}
 use Rattle.std.specs.Char.{to_ascii_lowercase}
 use Rattle.std.specs.Prelude.{Bool, List, None, Some, [], cond, false, map, not, true, ℕ, ◌&&◌, ◌||◌, ◌∷◌, ◌≡◌}
+
+-- what holds of a name, and of its asterisk where nothing stands at the name, holds of the source of its data
+module _ (P : NameValue → Type 0) (n wildcard s : NameValue) where
+  pub source_holds : (b c : Bool) → P n → (b ≡ false → P wildcard)
+      → cond b (Some n) (cond c (Some wildcard) None) ≡ Some s → P s
+  source_holds true c p q h = subst P (same_Some n s h) p
+  source_holds false true p q h = subst P (same_Some wildcard s h) (q refl)
+  source_holds false false p q h = cc
 
 stops : (z : Zone) (absolute : Bool) (labels : List (List ℕ)) → encloses z (name_with absolute labels) ≡ true
     → end_that_exists z absolute labels ≡ name_with absolute labels

@@ -37,20 +37,20 @@ stands_here x xs = record { before = []; after = xs; whole = refl }
 stands_later : {X : Type 0} (x y : X) (xs : List X) → StandsIn xs x → StandsIn (y ∷ xs) x
 stands_later x y xs h = record { before = y ∷ h.before; after = h.after; whole = ap (λ zs. y ∷ zs) h.whole }
 
-all-append : {X : Type 0} (P : X → Type 0) (xs ys : List X) → AllByRecursion P xs → AllByRecursion P ys
+pub all-append : {X : Type 0} (P : X → Type 0) (xs ys : List X) → AllByRecursion P xs → AllByRecursion P ys
     → AllByRecursion P (xs ++ ys)
 all-append P [] ys h k = k
 all-append P (x ∷ xs) ys h k = (h.0, all-append P xs ys h.1 k)
 
 -- what holds of the records of all data holds of those that are answered
 module _ (P : Record RData → Type 0) (class : DNSClass) (n : NameValue) (ttl : ℕ) where
-  by_test : (b : Bool) (d : Datum) (ds : List Datum) → P (record_of class n ttl d)
+  pub by_test : (b : Bool) (d : Datum) (ds : List Datum) → P (record_of class n ttl d)
       → AllByRecursion P (map (record_of class n ttl) (shown ds))
       → AllByRecursion P (map (record_of class n ttl) (cond b (d ∷ shown ds) (shown ds)))
   by_test true d ds h more = (h, more)
   by_test false d ds h more = more
 
-  each_shown : (ds : List Datum) → ((d : Datum) → StandsIn ds d → P (record_of class n ttl d))
+  pub each_shown : (ds : List Datum) → ((d : Datum) → StandsIn ds d → P (record_of class n ttl d))
       → AllByRecursion P (map (record_of class n ttl) (shown ds))
   each_shown [] f = tt
   each_shown (d ∷ ds) f = by_test (not (is_empty_data d.rdata)) d ds (f d (stands_here d ds))
@@ -64,45 +64,41 @@ module _ (P : Record RData → Type 0) (r : Record RData) (target : NameValue) w
   alias_by x None more p q h = q h
 
   alias_holds : (rs : List (Record RData)) → AllByRecursion P rs → alias_in rs ≡ Some (r, target) → P r
-  alias_holds [] all h = absurd (no h) where
-    no : ◌≡◌ {A = Option (Record RData × NameValue)} None (Some (r, target)) → ⊥
-    no e = cc
+  alias_holds [] all h = cc
   alias_holds (x ∷ rs) all h = alias_by x (target_of x.rdata) (alias_in rs) all.0 (alias_holds rs all.1) h
 
 -- ---- what was found
 
 -- what holds of the alias that was found, or of the records
-abbrev pub OfFound : (Record RData → Type 0) → Finding → Type 0
-OfFound P Outside = Unit {0}
-OfFound P NoName = Unit {0}
-OfFound P (Cut m) = Unit {0}
-OfFound P (Alias r target) = P r
-OfFound P (Data rs) = AllByRecursion P rs
+abbrev pub OfFound : (Record RData → Type 0) → (List (Record RData) → Type 0) → Finding → Type 0
+OfFound P Q Outside = Unit {0}
+OfFound P Q NoName = Unit {0}
+OfFound P Q (Cut m) = Unit {0}
+OfFound P Q (Alias r target) = P r
+OfFound P Q (Data rs) = Q rs
 
-module _ (P : Record RData → Type 0) (z : Zone) (t : RecordType) (n : NameValue) where
-  of_else : (a : Option (Record RData × NameValue)) (rs : List (Record RData))
-      → ((r : Record RData) (target : NameValue) → a ≡ Some (r, target) → P r) → AllByRecursion P rs
-      → OfFound P (alias_else a rs)
-  of_else (Some (r, target)) rs f h = f r target refl
-  of_else None rs f h = h
+module _ (P : Record RData → Type 0) (Q : List (Record RData) → Type 0) (z : Zone) (t : RecordType) (n : NameValue)
+    (alias : (s : NameValue) → source z n ≡ Some s → (r : Record RData) (target : NameValue)
+    → alias_at z t n s ≡ Some (r, target) → P r)
+    (others : (s : NameValue) → source z n ≡ Some s → Q (asked z t n s)) where
+  of_else : (s : NameValue) → source z n ≡ Some s → (a : Option (Record RData × NameValue)) → alias_at z t n s ≡ a
+      → OfFound P Q (alias_else a (asked z t n s))
+  of_else s e (Some (r, target)) h = alias s e r target h
+  of_else s e None h = others s e
 
-  of_source : (o : Option NameValue) → source z n ≡ o
-      → ((s : NameValue) → source z n ≡ Some s → (r : Record RData) (target : NameValue)
-      → alias_at z t n s ≡ Some (r, target) → P r)
-      → ((s : NameValue) → source z n ≡ Some s → AllByRecursion P (asked z t n s)) → OfFound P (at_source z t n o)
-  of_source None e f g = tt
-  of_source (Some s) e f g = of_else (alias_at z t n s) (asked z t n s) (f s e) (g s e)
+  of_source : (o : Option NameValue) → source z n ≡ o → OfFound P Q (at_source z t n o)
+  of_source None e = tt
+  of_source (Some s) e = of_else s e (alias_at z t n s) refl
 
-  of_cut : (b : Bool) (c : Option NameValue) (f : Finding) → OfFound P f → OfFound P (cond b (cut_else c f) Outside)
+  of_cut : (b : Bool) (c : Option NameValue) (f : Finding) → OfFound P Q f
+      → OfFound P Q (cond b (cut_else c f) Outside)
   of_cut false c f h = tt
   of_cut true (Some m) f h = tt
   of_cut true None f h = h
 
-  of_lookup : ((s : NameValue) → source z n ≡ Some s → (r : Record RData) (target : NameValue)
-      → alias_at z t n s ≡ Some (r, target) → P r)
-      → ((s : NameValue) → source z n ≡ Some s → AllByRecursion P (asked z t n s)) → OfFound P (lookup z t n)
-  of_lookup f g = of_cut (is_within z.origin n) (cut_over z t n) (at_source z t n (source z n))
-      (of_source (source z n) refl f g)
+  pub of_lookup : OfFound P Q (lookup z t n)
+  of_lookup = of_cut (is_within z.origin n) (cut_over z t n) (at_source z t n (source z n))
+      (of_source (source z n) refl)
 
 -- ---- owners
 
@@ -113,11 +109,10 @@ module _ (z : Zone) (t : RecordType) (n : NameValue) where
   owned_records : (ds : List Datum) → AllByRecursion HasOwner (records_of z.class n ds)
   owned_records ds = each_shown HasOwner z.class n (least_ttl (shown ds)) ds (λ d h. refl)
 
-  alias_of : (b : Bool) (rs : List (Record RData)) (r : Record RData) (target : NameValue) (P : Record RData → Type 0)
+  pub alias_of : (b : Bool) (rs : List (Record RData)) (r : Record RData) (target : NameValue)
+      (P : Record RData → Type 0)
       → AllByRecursion P rs → cond b None (alias_in rs) ≡ Some (r, target) → P r
-  alias_of true rs r target P all h = absurd (no h) where
-    no : ◌≡◌ {A = Option (Record RData × NameValue)} None (Some (r, target)) → ⊥
-    no e = cc
+  alias_of true rs r target P all h = cc
   alias_of false rs r target P all h = alias_holds P r target rs all h
 
   owned_at : (s : NameValue) (r : Record RData) (target : NameValue) → alias_at z t n s ≡ Some (r, target)
@@ -138,12 +133,12 @@ module _ (z : Zone) (t : RecordType) (n : NameValue) where
       owned_sets (filter (λ (e : RrKey × List Datum). is_owned s e.0) (fin.entries z.sets))
   owned_asked_by false s = owned_records (at z (key_of s t))
 
-  pub owners_found : OfFound HasOwner (lookup z t n)
-  owners_found = of_lookup HasOwner z t n (λ s e r target h. owned_at s r target h)
+  pub owners_found : OfFound HasOwner (AllByRecursion HasOwner) (lookup z t n)
+  owners_found = of_lookup HasOwner (AllByRecursion HasOwner) z t n (λ s e r target h. owned_at s r target h)
       (λ s e. owned_asked_by (is_any t) s)
 
   pub alias_owner : (r : Record RData) (target : NameValue) → lookup z t n ≡ Alias r target → r.name ≡ n
-  alias_owner r target h = subst (OfFound HasOwner) h owners_found
+  alias_owner r target h = subst (OfFound HasOwner (AllByRecursion HasOwner)) h owners_found
 
 -- ---- where it stands
 
@@ -185,9 +180,7 @@ module _ (z : Zone) (t : RecordType) (n s : NameValue) (is_source : source z n �
   -- the records under a key of the source
   found_set : (q : RrKey) (es : List (RrKey × List Datum)) (ds : List Datum) → fin.find key_cmp q es ≡ Some ds
       → StandsIn es (q, ds)
-  found_set q [] ds h = absurd (no h) where
-    no : ◌≡◌ {A = Option (List Datum)} None (Some ds) → ⊥
-    no e = cc
+  found_set q [] ds h = cc
   found_set q ((k, v) ∷ es) ds h = go (key_cmp q k) refl h (found_set q es ds) where
     go : (o : Ordering) → key_cmp q k ≡ o → cond (is_eq o) (Some v) (fin.find key_cmp q es) ≡ Some ds
         → (fin.find key_cmp q es ≡ Some ds → StandsIn es (q, ds)) → StandsIn ((k, v) ∷ es) (q, ds)
@@ -212,30 +205,33 @@ module _ (z : Zone) (t : RecordType) (n s : NameValue) (is_source : source z n �
   stands_asked_by true = of_sets (fin.entries z.sets) (λ e h. h)
   stands_asked_by false = of_type t
 
-  pub stands_alias : (r : Record RData) (target : NameValue) → alias_at z t n s ≡ Some (r, target) → Stands r
+  stands_alias : (r : Record RData) (target : NameValue) → alias_at z t n s ≡ Some (r, target) → Stands r
   stands_alias r target h = alias_of z t n (is_cname t || is_any t) (records z n (key_of s types.CNAME)) r target Stands
       (of_type types.CNAME) h
 
-  pub stands_asked : AllByRecursion Stands (asked z t n s)
+  stands_asked : AllByRecursion Stands (asked z t n s)
   stands_asked = stands_asked_by (is_any t)
 
 module _ (z : Zone) (t : RecordType) where
   abbrev IsThere : Record RData → Type 0
   IsThere r = StandsInZone z r
 
-  pub found_stands : (n : NameValue) → OfFound IsThere (lookup z t n)
-  found_stands n = of_lookup IsThere z t n (λ s e r target h. stands_alias z t n s e r target h)
-      (λ s e. stands_asked z t n s e)
+  abbrev OfThere : Finding → Type 0
+  OfThere f = OfFound IsThere (AllByRecursion IsThere) f
+
+  found_stands : (n : NameValue) → OfThere (lookup z t n)
+  found_stands n = of_lookup IsThere (AllByRecursion IsThere) z t n
+      (λ s e r target h. stands_alias z t n s e r target h) (λ s e. stands_asked z t n s e)
 
   chain_stands : (n last : NameValue) (rs : List (Record RData)) → IsChain z t n rs last → AllByRecursion IsThere rs
   chain_stands n last [] (ends m) = tt
   chain_stands n last (r ∷ rs) (leads m target end x xs found more) =
-      (subst (OfFound IsThere) found (found_stands m), chain_stands target end xs more)
+      (subst OfThere found (found_stands m), chain_stands target end xs more)
 
   last_stands : (n : NameValue) (rs : List (Record RData)) → (rs ≡ []) ⊎ (lookup z t n ≡ Data rs)
       → AllByRecursion IsThere rs
   last_stands n rs (inl none) = subst (AllByRecursion IsThere) (sym none) tt
-  last_stands n rs (inr found) = subst (OfFound IsThere) found (found_stands n)
+  last_stands n rs (inr found) = subst OfThere found (found_stands n)
 
   pub led_stand : (n : NameValue) (most : ℕ) (answers : List (Record RData)) → AreLed z t n most answers
       → AllByRecursion IsThere answers

@@ -62,17 +62,6 @@ module _ (class : DNSClass) (owner : NameValue) (ttl : ℕ) (rs : List (Record R
         subst (λ ys. Fills before ys a c × IsFull c.room ys) (sym begins)
         (fills_then before (x ∷ xs) (x ∷ xs) a b c from_here full.0, full.1)
 
--- before the first
-pub set_begins : (class : DNSClass) (owner : NameValue) (ttl : ℕ) (rs xs : List (Record RData)) (i : ℕ) (a : Answers)
-    → ttl ≡ least_ttl (shown (map datum_of rs)) → rs ≡ xs
-    → Fills (left_of class owner (least_ttl (shown (map datum_of xs))) xs i) (left_of class owner ttl rs i) a a
-set_begins class owner ttl rs xs i a h same =
-    let whole : List (Record RData) = left_of class owner (least_ttl (shown (map datum_of xs))) xs i in
-    subst (λ ys. Fills whole ys a a)
-    (ap (λ (zs : List (Record RData)). left_of class owner (least_ttl (shown (map datum_of zs))) zs i) (sym same)
-    ∙ ap (λ n. left_of class owner n rs i) (sym h))
-    (fills_none whole a a refl refl)
-
 -- the same as they are named from a set
 pub set_from : (class : DNSClass) (owner : NameValue) (ttl : ℕ) (rs xs : List (Record RData)) (i : ℕ)
     → ttl ≡ least_ttl (shown (map datum_of rs)) → rs ≡ xs
@@ -80,6 +69,14 @@ pub set_from : (class : DNSClass) (owner : NameValue) (ttl : ℕ) (rs xs : List 
 set_from class owner ttl rs xs i h same =
     ap (λ n. left_of class owner n rs i) h
     ∙ ap (λ (zs : List (Record RData)). left_of class owner (least_ttl (shown (map datum_of zs))) zs i) same
+
+-- before the first
+pub set_begins : (class : DNSClass) (owner : NameValue) (ttl : ℕ) (rs xs : List (Record RData)) (i : ℕ) (a : Answers)
+    → ttl ≡ least_ttl (shown (map datum_of rs)) → rs ≡ xs
+    → Fills (left_of class owner (least_ttl (shown (map datum_of xs))) xs i) (left_of class owner ttl rs i) a a
+set_begins class owner ttl rs xs i a h same =
+    let whole : List (Record RData) = left_of class owner (least_ttl (shown (map datum_of xs))) xs i in
+    subst (λ ys. Fills whole ys a a) (sym (set_from class owner ttl rs xs i h same)) (fills_none whole a a refl refl)
 
 -- ---- the sets of a map
 

@@ -114,11 +114,7 @@ no_way z n h = no_ends z n.absolute n.labels h
 
 one_more : (z : Zone) (absolute : Bool) (labels : List (List ℕ)) → is_below z.origin (name_with absolute labels) ≡ true
     → ends_below z absolute labels ≡ ends_below z absolute (drop 1 labels) ++ name_with absolute labels ∷ []
-one_more z absolute [] h = absurd (none (starts z.origin absolute [] h)) where
-  none : Starts z.origin absolute [] → ⊥
-  none s = absurd (nil s.first s.others s.is) where
-    nil : (x : List ℕ) (xs : List (List ℕ)) → [] ≡ x ∷ xs → ⊥
-    nil x xs e = cc
+one_more z absolute [] h = let s : Starts z.origin absolute [] = starts z.origin absolute [] h in cc
 one_more z absolute (label ∷ labels) h =
     ap (λ b. ends_below z absolute labels ++ cond b (name_with absolute (label ∷ labels) ∷ []) []) h
 
@@ -221,13 +217,9 @@ cut_beside z t n side b d e = ap (λ (x : NameValue). find (has_servers z) (way 
 pub cut_found : (m : BTreeMap RrKey SetValue) (c : Option NameValue) (s : SetValue) (f : Finding)
     → IsCutSet m c (Some s)
     → (x : NameValue) × (cut_else c f ≡ Cut x) × (tree.get key_cmp m (key_of x types.NS) ≡ Some s)
-cut_found m None s f h = absurd (no h) where
-  no : Some s ≡ None → ⊥
-  no e = cc
+cut_found m None s f h = cc
 cut_found m (Some x) s f h = (x, refl, h.2 ∙ sym h.1)
 
 pub no_cut : (m : BTreeMap RrKey SetValue) (c : Option NameValue) (f : Finding) → IsCutSet m c None → cut_else c f ≡ f
 no_cut m None f h = refl
-no_cut m (Some x) f h = absurd (no h.0 h.1) where
-  no : (s : SetValue) → None ≡ Some s → ⊥
-  no s e = cc
+no_cut m (Some x) f h = cc

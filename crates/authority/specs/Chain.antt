@@ -1,9 +1,13 @@
 -- A chain of aliases (RFC 1034, 3.6.2).
-use Rattle.authority.specs.Answer.{owns}
-use Rattle.authority.specs.Lookup.{Alias, Data, lookup}
+use Rattle.authority.specs.Answer.{AnswerValue, negative, owns}
+use Rattle.authority.specs.Lookup.{Alias, Cut, Data, Finding, NoName, lookup, records}
 use Rattle.base.specs.names.Labels.{NameValue}
+use Rattle.base.specs.RrKey.{key_of}
+use Rattle.base.specs.declared.record_type.RecordType.TheVariants as types
 use Rattle.base.specs.declared.record_type.RecordType.{RecordType}
 use Rattle.base_data.specs.declared.rdata.RData.{RData}
+use Rattle.op.specs.declared.response_code.ResponseCode.TheVariants.{NXDomain, NoError, ServFail}
+use Rattle.op.specs.declared.response_code.ResponseCode.{ResponseCode}
 use Rattle.op_use.specs.Zone.{Zone}
 use Rattle.rr.specs.declared.record.Record.{Record}
 use Rattle.std.specs.Prelude.{List, [], false, length, ℕ, ◌++◌, ◌∷◌, ◌≡◌, ◌≤◌, ◌⊎◌}
@@ -31,3 +35,22 @@ pub record AreLed (z : Zone) (t : RecordType) (n : NameValue) (most : ℕ) (answ
   pub short : length chain ≤ most
   pub distinct : AreNew [] chain
   pub found : (records ≡ []) ⊎ (lookup z t last ≡ Data records)
+
+-- the authorities for what was found for a name: the SOA for no name and no data (RFC 2308, 2), the name servers of a
+-- cut, and else none
+abbrev pub authorities_for : Zone → NameValue → Finding → List (Record RData)
+authorities_for z n NoName = negative z n
+authorities_for z n (Data []) = negative z n
+authorities_for z n (Cut m) = records z m (key_of m types.NS)
+authorities_for z n _ = []
+
+-- the code for what was found
+abbrev pub code_for : Finding → ResponseCode
+code_for NoName = NXDomain
+code_for _ = NoError
+
+-- The code and the authorities of an answer are those for what the zone has for this name, or it failed, with none.
+abbrev pub EndsFor : Zone → RecordType → NameValue → AnswerValue → Type 0
+EndsFor z t n a =
+    ((a.code ≡ code_for (lookup z t n)) × (a.authorities ≡ authorities_for z n (lookup z t n)))
+    ⊎ ((a.code ≡ ServFail) × (a.authorities ≡ []))

@@ -1,8 +1,11 @@
+pub mod Agreement
 pub mod Answer
 pub mod Chain
 pub mod Filling
 pub mod Found
+pub mod LetterCase
 pub mod Lookup
+pub mod Once
 pub mod Reply
 pub mod Sent
 pub mod Standing

@@ -1,6 +1,6 @@
 -- What a zone has for a name and a type (RFC 1034, 4.3.2, steps 2 and 3; RFC 4592).
 use Rattle.base.specs.names.Labels.{NameValue}
-use Rattle.base.specs.names.NameOrder.{same_name}
+use Rattle.base.specs.names.NameOrder.{lowered, same_name}
 use Rattle.base.specs.names.Parents.{asterisk, is_at_or_below, is_below, is_within, parent}
 use Rattle.base.specs.RrKey.{key_of}
 use Rattle.base.specs.declared.dns_class.DNSClass.{DNSClass}
@@ -107,6 +107,10 @@ record_of class owner ttl d = record {
   rdata = d.rdata;
   mdns_cache_flush = false;
 }
+
+-- a record with its owner in lower case
+abbrev pub owner_lowered : Record RData → Record RData
+owner_lowered r = record r { name = lowered r.name }
 
 -- data as the records of an owner, each with the least TTL
 abbrev pub records_of : DNSClass → NameValue → List Datum → List (Record RData)

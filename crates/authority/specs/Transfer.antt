@@ -1,6 +1,6 @@
 -- The messages of a zone transfer (RFC 5936, 2.2).
 use Rattle.authority.specs.Answer.{with_authority}
-use Rattle.authority.specs.Lookup.{least_ttl, record_of, shown}
+use Rattle.authority.specs.Lookup.{least_ttl, record_of, records_of, shown}
 use Rattle.authority.specs.Reply.{framed, header_refusal, one_question, only_code}
 use Rattle.authority.specs.declared.transferring.TransferPlace.TheVariants as places
 use Rattle.authority.specs.declared.transferring.TransferPlace.{TransferPlace}
@@ -24,13 +24,15 @@ use Rattle.op.specs.declared.response_code.ResponseCode.TheVariants.{ServFail}
 use Rattle.op_use.specs.Applying.{data_in_set}
 use Rattle.op_use.specs.NamedChanges.{datum_of}
 use Rattle.op_use.specs.Server.{StepCode, and_then, unless}
+use Rattle.op_use.specs.Zone.{Datum, Zone}
 use Rattle.rr.specs.Record.{plain_record}
 use Rattle.rr.specs.RecordOrder.{same_class}
 use Rattle.rr.specs.RecordSet.{SetValue, is_soa}
 use Rattle.rr.specs.declared.record.Record.{Record}
 use Rattle.std.specs.BTreeMap.Range.{entries_between}
 use Rattle.std.specs.BTreeMap.{BTreeMap, get}
-use Rattle.std.specs.List.{flat_map}
+use Rattle.std.specs.FinMap as fin
+use Rattle.std.specs.List.{filter, flat_map}
 use Rattle.std.specs.Prelude.{Bool, List, None, Option, Some, [], drop, false, if◌then◌else◌, is_some, map, not, true}
 use Rattle.std.specs.Prelude.{ℕ}
 use Rattle.std.specs.Prelude.{slice_get, ◌&&◌, ◌+◌, ◌++◌, ◌-◌, ◌<◌, ◌||◌, ◌∷◌, ◌≡◌, ◌≢◌, ◌⊎◌}
@@ -59,6 +61,11 @@ given_from origin class j (e ∷ es) = given origin class j e ++ flat_map (given
 -- the records of a zone between the two SOAs, glue and names below cuts among them, in the order of their keys
 abbrev pub between : NameValue → DNSClass → BTreeMap RrKey SetValue → List (Record RData)
 between origin class sets = flat_map (given origin class 0) sets.entries
+
+-- the records of a zone's sets at the origin or below it but for the SOA, set by set in the order of their keys
+abbrev pub zone_records : Zone → List (Record RData)
+zone_records z = flat_map (λ (e : RrKey × List Datum). records_of z.class e.0.name e.1)
+    (filter (λ (e : RrKey × List Datum). is_between z.origin e.0) (fin.entries z.sets))
 
 -- the first record of the set of an SOA
 abbrev pub first_of : DNSClass → Option SetValue → Option (Record RData)

@@ -1,7 +1,10 @@
 //! Which message a server answers to a message (RFC 1035, 4.1.1; RFC 6891, 6.1; RFC 9619).
 
 ghost use Rattle.authority.specs.Answer.{answer_value};
-ghost use Rattle.authority.specs.Reply.{answer_to as the_answer, edns_of_reply, framed as the_frame, header_refusal as the_header_refusal, one_question as the_question, only_code as the_code, question_refusal as the_refusal, refused_or, reply as the_reply};
+ghost use Rattle.authority.specs.Reply.{answer_to as the_answer, edns_of_reply, framed as the_frame};
+ghost use Rattle.authority.specs.Reply.{header_refusal as the_header_refusal, one_question as the_question};
+ghost use Rattle.authority.specs.Reply.{only_code as the_code, question_refusal as the_refusal, refused_or};
+ghost use Rattle.authority.specs.Reply.{reply as the_reply};
 ghost use Rattle.authority.specs.ZoneRef.{AreUnderKeys, zone_of};
 ghost use Rattle.base.specs.RrKey.{key_of as the_key};
 ghost use Rattle.op.specs.Message.{empty_message, message_value};

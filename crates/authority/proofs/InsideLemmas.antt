@@ -1,0 +1,121 @@
+-- Sets that stand neither at the origin nor below it are never looked at.
+use Rattle.authority.proofs.AgreementLemmas.{below_by, kept_agree, lookup_agrees}
+use Rattle.authority.proofs.SourceLemmas.{source_holds}
+use Rattle.authority.proofs.WayLemmas.{starts}
+use Rattle.authority.specs.Agreement.{Agree, with_sets}
+use Rattle.authority.specs.Lookup.{Outside, at_source, cut_else, cut_over, encloser, encloses, end_that_exists, exists}
+use Rattle.authority.specs.Lookup.{lookup, name_with, source, wildcard_below}
+use Rattle.base.proofs.names.BelowLemmas.{lies_in, lies_so}
+use Rattle.base.specs.names.Labels.{NameValue}
+use Rattle.base.specs.names.NameOrder.{folded, lowered}
+use Rattle.base.specs.names.NameOrderLaws.{same_lower-exact}
+use Rattle.base.specs.names.Parents.{asterisk, is_at_or_below, is_within}
+use Rattle.base.specs.RrKey.{key_cmp, key_of}
+use Rattle.base.specs.declared.record_type.RecordType.TheVariants as types
+use Rattle.base.specs.declared.record_type.RecordType.{RecordType}
+use Rattle.base.specs.declared.rr_key.RrKey.{RrKey}
+use Rattle.op_use.specs.Zone.{Datum, Zone, is_owned}
+use Rattle.std.proofs.Common.{ap, append_assoc, refl, subst, sym, ◌++◌, ◌∙◌}
+use Rattle.std.specs.Char.{to_ascii_lowercase}
+use Rattle.std.specs.Cmp.{first_so}
+use Rattle.std.specs.FinMap as fin
+use Rattle.std.specs.FinMap.{FinMap}
+use Rattle.std.specs.List.{filter, list_any}
+use Rattle.std.specs.Prelude.{Bool, List, Some, [], cond, false, is_some, map, true, ℕ, ◌||◌, ◌∷◌, ◌≡◌}
+
+-- what lies in a name that lies in another lies in that
+pub within_too : (a n b : NameValue) → is_within a n ≡ true → is_at_or_below n b ≡ true → is_at_or_below a b ≡ true
+within_too a n b w h =
+    let outer = lies_in a (lowered n) w in
+    let inner = lies_in n b h in
+    lies_so a b (record {
+      flag = outer.flag ∙ inner.flag;
+      front = inner.front ++ outer.front;
+      labels = inner.labels ∙ ap (λ (xs : List (List ℕ)). inner.front ++ xs) outer.labels
+          ∙ sym (append_assoc inner.front outer.front (folded a));
+    })
+
+pub within_itself : (a : NameValue) → is_within a a ≡ true
+within_itself a = lies_so a (lowered a) (record { flag = refl; front = []; labels = refl })
+
+pub wildcard_within : (a n : NameValue) → is_within a n ≡ true → is_within a (wildcard_below n) ≡ true
+wildcard_within a n w =
+    let lies = lies_in a (lowered n) w in
+    lies_so a (lowered (wildcard_below n)) (record {
+      flag = lies.flag;
+      front = map to_ascii_lowercase asterisk ∷ lies.front;
+      labels = ap (λ (xs : List (List ℕ)). map to_ascii_lowercase asterisk ∷ xs) lies.labels;
+    })
+
+-- the closest encloser of a name in the zone is in the zone
+module _ (z : Zone) where
+  pick_within : (n m : NameValue) (b : Bool) → is_within z.origin n ≡ true
+      → (b ≡ false → is_within z.origin m ≡ true) → is_within z.origin (cond b n m) ≡ true
+  pick_within n m true w h = w
+  pick_within n m false w h = h refl
+
+  ends_within : (absolute : Bool) (labels : List (List ℕ)) → is_within z.origin (name_with absolute labels) ≡ true
+      → is_within z.origin (end_that_exists z absolute labels) ≡ true
+  ends_within absolute [] w = w
+  ends_within absolute (x ∷ labels) w =
+      let n : NameValue = name_with absolute (x ∷ labels) in
+      pick_within n (end_that_exists z absolute labels) (encloses z n) w
+      (λ none. ends_within absolute labels ((starts z.origin absolute (x ∷ labels)
+      (below_by z z.sets n w none)).within))
+
+  pub encloser_within : (n : NameValue) → is_within z.origin n ≡ true → is_within z.origin (encloser z n) ≡ true
+  encloser_within n w = ends_within n.absolute n.labels w
+
+  pub source_within : (n s : NameValue) → is_within z.origin n ≡ true → source z n ≡ Some s
+      → is_within z.origin s ≡ true
+  source_within n s w h = source_holds (λ (x : NameValue). is_within z.origin x ≡ true) n
+      (wildcard_below (encloser z n)) s (exists z n) (exists z (wildcard_below (encloser z n))) w
+      (λ e. wildcard_within z.origin (encloser z n) (encloser_within n w)) h
+
+-- whether something stands among entries at keys that pass a test
+any_step : (p : RrKey → Bool) (e : RrKey × List Datum) (fs es : List (RrKey × List Datum)) (b : Bool) → p e.0 ≡ b
+    → list_any p (map (λ x. x.0) fs) ≡ list_any p (map (λ x. x.0) es)
+    → list_any p (map (λ x. x.0) (cond b (e ∷ fs) fs)) ≡ (p e.0 || list_any p (map (λ x. x.0) es))
+any_step p e fs es true t h = ap (λ b. p e.0 || b) h
+any_step p e fs es false t h = h ∙ sym (ap (λ b. b || list_any p (map (λ x. x.0) es)) t)
+
+any_kept : (p : RrKey → Bool) (es : List (RrKey × List Datum))
+    → list_any p (map (λ x. x.0) (filter (λ (e : RrKey × List Datum). p e.0) es)) ≡ list_any p (map (λ x. x.0) es)
+any_kept p [] = refl
+any_kept p (e ∷ es) = any_step p e (filter (λ (e : RrKey × List Datum). p e.0) es) es (p e.0) refl (any_kept p es)
+
+module _ (z : Zone) (sets : FinMap key_cmp (List Datum)) where
+  pub exists_agrees : (n : NameValue) → ((k : RrKey) → is_at_or_below n k.name ≡ true
+      → fin.get z.sets k ≡ fin.get sets k) → exists z n ≡ exists (with_sets z sets) n
+  exists_agrees n same =
+      let p : RrKey → Bool = λ k. is_at_or_below n k.name in
+      sym (any_kept p (fin.entries z.sets))
+      ∙ ap (λ (es : List (RrKey × List Datum)). list_any p (map (λ x. x.0) es)) (kept_agree p z.sets sets same)
+      ∙ any_kept p (fin.entries sets)
+
+  module _ (same : (k : RrKey) → is_at_or_below z.origin k.name ≡ true → fin.get z.sets k ≡ fin.get sets k) where
+    inside_agrees : (n : NameValue) → is_within z.origin n ≡ true → exists z n ≡ exists (with_sets z sets) n
+    inside_agrees n w = exists_agrees n (λ k h. same k (within_too z.origin n k.name w h))
+
+    owned_inside : (s : NameValue) (k : RrKey) → is_within z.origin s ≡ true → is_owned s k ≡ true
+        → fin.get z.sets k ≡ fin.get sets k
+    owned_inside s k w own = same k (subst (λ (x : NameValue). is_at_or_below z.origin x ≡ true)
+        (same_lower-exact (lowered s) k.name own) w)
+
+    agree : (n : NameValue) → is_within z.origin n ≡ true → Agree z sets n
+    agree n w = record {
+      ends = λ front labels e h. inside_agrees (name_with n.absolute labels) h;
+      servers = λ front labels e h. ap (λ o. is_some o) (same (key_of (name_with n.absolute labels) types.NS)
+          (first_so (is_within z.origin (name_with n.absolute labels)) _ h));
+      asterisk = inside_agrees (wildcard_below (encloser z n))
+          (wildcard_within z.origin (encloser z n) (encloser_within z n w));
+      at_source = λ s k e own. owned_inside s k (source_within z n s w e) own;
+    }
+
+    pub lookup_inside : (t : RecordType) (n : NameValue) → lookup z t n ≡ lookup (with_sets z sets) t n
+    lookup_inside t n = go (is_within z.origin n) refl where
+      go : (b : Bool) → is_within z.origin n ≡ b → lookup z t n ≡ lookup (with_sets z sets) t n
+      go true w = lookup_agrees z sets t n (agree n w)
+      go false w = ap (λ b. cond b (cut_else (cut_over z t n) (at_source z t n (source z n))) Outside) w
+          ∙ sym (ap (λ b. cond b (cut_else (cut_over (with_sets z sets) t n)
+          (at_source (with_sets z sets) t n (source (with_sets z sets) n))) Outside) w)

@@ -1,0 +1,275 @@
+-- No record of what is found stands twice.
+use Rattle.authority.proofs.FirstKey.{is_false}
+use Rattle.authority.proofs.StandingLemmas.{OfFound, alias_of, all-append, by_test, each_shown, of_lookup}
+use Rattle.authority.specs.Answer.{is_given, owns}
+use Rattle.authority.specs.Lookup.{Finding}
+use Rattle.authority.specs.Lookup.{least_ttl, lookup, record_of, records, records_of}
+use Rattle.authority.specs.Lookup.{shown}
+use Rattle.authority.specs.Once.{HasProperSets, IsProper, same_record}
+use Rattle.base.proofs.names.KeyLemmas.{key_cmp-exact, key_cmp-total}
+use Rattle.base.specs.names.Labels.{NameValue}
+use Rattle.base.specs.names.NameOrder.{folded, lowered, same_name}
+use Rattle.base.specs.names.NameOrderLaws.{same_by-equiv, same_lower-exact}
+use Rattle.base.specs.RecordType.{same_type}
+use Rattle.base.specs.RrKey.{key_cmp, key_of}
+use Rattle.base.specs.declared.dns_class.DNSClass.{DNSClass}
+use Rattle.base.specs.declared.record_type.RecordType.TheVariants as types
+use Rattle.base.specs.declared.record_type.RecordType.{RecordType}
+use Rattle.base.specs.declared.rr_key.RrKey.{RrKey}
+use Rattle.base_data.proofs.EqualData.{one_type}
+use Rattle.base_data.specs.Kinds.{type_of_data}
+use Rattle.base_data.specs.RData.{is_empty_data}
+use Rattle.base_data.specs.SameData.{same_data}
+use Rattle.base_data.specs.declared.rdata.RData.{RData}
+use Rattle.op_use.specs.Server.{is_any, is_cname}
+use Rattle.op_use.specs.Zone.{Datum, Zone, is_owned}
+use Rattle.rr.specs.Record.{type_of_record}
+use Rattle.rr.specs.declared.record.Record.{Record}
+use Rattle.std.proofs.Common.{ap, refl, rules, subst, sym, ◌++◌, ◌∙◌}
+use Rattle.std.proofs.lemmas.Bool.{false≢true, or_parts}
+use Rattle.std.proofs.lemmas.Map.Keys.{IsDistinct-cons, IsDistinct-head, IsDistinct-tail}
+use Rattle.std.proofs.lemmas.Option.{same_Some}
+use Rattle.std.specs.Bool.{Decides}
+use Rattle.std.specs.Cmp.{first_so, second_so, tied_itself}
+use Rattle.std.specs.FinMap as fin
+use Rattle.std.specs.FinMap.Entries.{below_all, is_sorted}
+use Rattle.std.specs.List.{AllByRecursion, IsDistinct, filter, flat_map, list_any}
+use Rattle.std.specs.Ordering.{is_eq, is_lt, on}
+use Rattle.std.specs.Prelude.{T}
+use Rattle.std.specs.Prelude.{Bool, List, None, Option, Some, [], cond, false, map, not, true, unwrap_or, ℕ, ◌&&◌, ◌||◌}
+use Rattle.std.specs.Prelude.{◌∷◌, ◌≡◌, ◌≢◌}
+use Rattle.std.specs.declared.cmp.Ordering.TheVariants.{Equal, Greater, Less}
+use Rattle.std.specs.declared.cmp.Ordering.{Ordering}
+
+types_decide : (s t : RecordType) → Decides (same_type s t) (s ≡ t)
+types_decide = search rules
+
+is_true : (b : Bool) → T b → b ≡ true
+is_true true h = refl
+is_true false h = absurd h
+
+all_false : {X : Type 0} (p : X → Bool) (xs : List X) → list_any p xs ≡ false → AllByRecursion (λ x. p x ≡ false) xs
+all_false p [] h = tt
+all_false p (x ∷ xs) h = let parts = or_parts (p x) (list_any p xs) h in (parts.0, all_false p xs parts.1)
+
+-- none of some records is the same as one of others
+abbrev pub Apart : List (Record RData) → List (Record RData) → Type 0
+Apart rs qs = AllByRecursion (λ (r : Record RData). AllByRecursion (λ (q : Record RData). same_record r q ≡ false) qs)
+    rs
+
+pub joined : (rs qs : List (Record RData)) → IsDistinct same_record rs → IsDistinct same_record qs → Apart rs qs
+    → IsDistinct same_record (rs ++ qs)
+joined [] qs d e a = e
+joined (r ∷ rs) qs d e a = IsDistinct-cons same_record r (rs ++ qs)
+    (all-append (λ (q : Record RData). same_record r q ≡ false) rs qs (IsDistinct-head same_record r rs d) a.0)
+    (joined rs qs (IsDistinct-tail same_record r rs d) e a.1)
+
+module _ (P Q : Record RData → Type 0)
+    (never : (r q : Record RData) → P r → Q q → same_record r q ≡ true → ⊥) where
+  apart_from : (r : Record RData) (qs : List (Record RData)) → P r → AllByRecursion Q qs
+      → AllByRecursion (λ (q : Record RData). same_record r q ≡ false) qs
+  apart_from r [] p h = tt
+  apart_from r (q ∷ qs) p h = (is_false (same_record r q) (never r q p h.0), apart_from r qs p h.1)
+
+  apart_by : (rs qs : List (Record RData)) → AllByRecursion P rs → AllByRecursion Q qs → Apart rs qs
+  apart_by [] qs h k = tt
+  apart_by (r ∷ rs) qs h k = (apart_from r qs h.0 k, apart_by rs qs h.1 k)
+
+one_name : (r q : Record RData) → same_record r q ≡ true → same_name r.name q.name ≡ true
+one_name r q t = first_so (same_name r.name q.name) (same_data r.rdata q.rdata) t
+
+one_kind : (r q : Record RData) → same_record r q ≡ true → type_of_record r ≡ type_of_record q
+one_kind r q t = one_type r.rdata q.rdata (second_so (same_name r.name q.name) (same_data r.rdata q.rdata) t)
+
+-- what is said of the owner and the type of records
+abbrev pub AreOf : NameValue → List (Record RData) → Type 0
+AreOf n rs = AllByRecursion (λ (r : Record RData). r.name ≡ n) rs
+
+abbrev pub AreOfType : RecordType → List (Record RData) → Type 0
+AreOfType t rs = AllByRecursion (λ (r : Record RData). type_of_record r ≡ t) rs
+
+pub apart_owners : (n : NameValue) (rs qs : List (Record RData)) → owns n rs ≡ false → AreOf n qs → Apart rs qs
+apart_owners n rs qs h k = apart_by (λ (r : Record RData). same_name n r.name ≡ false)
+    (λ (q : Record RData). q.name ≡ n) (λ r q p own t. false≢true (sym p ∙ (same_by-equiv folded).symm n r.name
+    ∙ ap (same_name r.name) (sym own) ∙ one_name r q t)) rs qs
+    (all_false (λ (r : Record RData). same_name n r.name) rs h) k
+
+pub apart_types : (s t : RecordType) (rs qs : List (Record RData)) → s ≢ t → AreOfType s rs → AreOfType t qs
+    → Apart rs qs
+apart_types s t rs qs ne h k = apart_by (λ (r : Record RData). type_of_record r ≡ s)
+    (λ (q : Record RData). type_of_record q ≡ t) (λ r q p own e. ne (sym p ∙ one_kind r q e ∙ own)) rs qs h k
+
+both_true : (a b : Bool) → a ≡ true → b ≡ true → (a && b) ≡ true
+both_true a b p q = ap (λ c. c && b) p ∙ q
+
+pub apart_given : (n : NameValue) (t : RecordType) (rs qs : List (Record RData)) → is_given rs n t ≡ false → AreOf n qs
+    → AreOfType t qs → Apart rs qs
+apart_given n t rs qs h k m = apart_by
+    (λ (r : Record RData). (same_name r.name n && same_type (type_of_record r) t) ≡ false)
+    (λ (q : Record RData). (q.name ≡ n) × (type_of_record q ≡ t)) (λ r q p own e. false≢true (sym p
+    ∙ both_true (same_name r.name n) (same_type (type_of_record r) t)
+    (ap (same_name r.name) (sym own.0) ∙ one_name r q e)
+    ((types_decide (type_of_record r) t).1 (one_kind r q e ∙ own.1)))) rs qs
+    (all_false (λ (r : Record RData). same_name r.name n && same_type (type_of_record r) t) rs h) (paired qs k m) where
+      paired : (xs : List (Record RData)) → AreOf n xs → AreOfType t xs
+          → AllByRecursion (λ (q : Record RData). (q.name ≡ n) × (type_of_record q ≡ t)) xs
+      paired [] a b = tt
+      paired (x ∷ xs) a b = ((a.0, b.0), paired xs a.1 b.1)
+
+-- ---- the records of a set
+
+pub none_once : IsDistinct same_record []
+unfolding IsDistinct
+none_once = tt
+
+module _ (class : DNSClass) (n : NameValue) (ttl : ℕ) where
+  abbrev shown_records : List Datum → List (Record RData)
+  shown_records ds = map (record_of class n ttl) (shown ds)
+
+  apart_shown : (d : Datum) (ds : List Datum) → AllByRecursion (λ (e : Datum). same_data d.rdata e.rdata ≡ false) ds
+      → AllByRecursion (λ (q : Record RData). same_record (record_of class n ttl d) q ≡ false) (shown_records ds)
+  apart_shown d [] h = tt
+  apart_shown d (e ∷ ds) h = by_test (λ (q : Record RData). same_record (record_of class n ttl d) q ≡ false) class n ttl
+      (not (is_empty_data e.rdata)) e ds (other (same_name n n) (same_data d.rdata e.rdata) h.0)
+      (apart_shown d ds h.1) where
+        other : (a b : Bool) → b ≡ false → (a && b) ≡ false
+        other true b p = p
+        other false b p = refl
+
+  once_by : (d : Datum) (ds : List Datum) (b : Bool) → IsDistinct same_record (shown_records ds)
+      → AllByRecursion (λ (q : Record RData). same_record (record_of class n ttl d) q ≡ false) (shown_records ds)
+      → IsDistinct same_record (map (record_of class n ttl) (cond b (d ∷ shown ds) (shown ds)))
+  once_by d ds true more apart = IsDistinct-cons same_record (record_of class n ttl d) (shown_records ds) apart more
+  once_by d ds false more apart = more
+
+  shown_once : (ds : List Datum) → IsDistinct (on (λ (d : Datum). d.rdata) same_data) ds
+      → IsDistinct same_record (shown_records ds)
+  shown_once [] h = none_once
+  shown_once (d ∷ ds) h =
+      once_by d ds (not (is_empty_data d.rdata))
+      (shown_once ds (IsDistinct-tail (on (λ (d : Datum). d.rdata) same_data) d ds h))
+      (apart_shown d ds (IsDistinct-head (on (λ (d : Datum). d.rdata) same_data) d ds h))
+
+  shown_types : (t : RecordType) (ds : List Datum) → AllByRecursion (λ (d : Datum). type_of_data d.rdata ≡ t) ds
+      → AreOfType t (shown_records ds)
+  shown_types t [] h = tt
+  shown_types t (d ∷ ds) h = by_test (λ (r : Record RData). type_of_record r ≡ t) class n ttl
+      (not (is_empty_data d.rdata)) d ds h.0 (shown_types t ds h.1)
+
+-- records of one owner and one type, none twice
+pub record IsBlock (n : NameValue) (t : RecordType) (rs : List (Record RData)) : Type 0 where
+  pub once : IsDistinct same_record rs
+  pub owners : AreOf n rs
+  pub kinds : AreOfType t rs
+
+pub no_block : (n : NameValue) (t : RecordType) → IsBlock n t []
+no_block n t = record { once = none_once; owners = tt; kinds = tt }
+
+set_block : (class : DNSClass) (n : NameValue) (e : RrKey × List Datum) → IsProper e
+    → IsBlock n e.0.record_type (records_of class n e.1)
+set_block class n e h = record {
+  once = shown_once class n (least_ttl (shown e.1)) e.1 h.0;
+  owners = each_shown (λ (r : Record RData). r.name ≡ n) class n (least_ttl (shown e.1)) e.1 (λ d h. refl);
+  kinds = shown_types class n (least_ttl (shown e.1)) e.0.record_type e.1 h.1;
+}
+
+found_proper : (q : RrKey) (ds : List Datum) (es : List (RrKey × List Datum)) → AllByRecursion IsProper es
+    → fin.find key_cmp q es ≡ Some ds → IsProper (q, ds)
+found_proper q ds [] all h = cc
+found_proper q ds (e ∷ es) all h = go (key_cmp q e.0) refl h (found_proper q ds es all.1) where
+  go : (o : Ordering) → key_cmp q e.0 ≡ o → cond (is_eq o) (Some e.1) (fin.find key_cmp q es) ≡ Some ds
+      → (fin.find key_cmp q es ≡ Some ds → IsProper (q, ds)) → IsProper (q, ds)
+  go Equal t found more = subst (λ (x : RrKey × List Datum). IsProper x)
+      (λ i. (sym (key_cmp-exact q e.0 t) i, same_Some e.1 ds found i)) all.0
+  go Less t found more = more found
+  go Greater t found more = more found
+
+module _ (z : Zone) (proper : HasProperSets z) where
+  pub records_block : (n : NameValue) (k : RrKey) → IsBlock n k.record_type (records z n k)
+  records_block n k = go (fin.get z.sets k) refl where
+    go : (o : Option (List Datum)) → fin.get z.sets k ≡ o
+        → IsBlock n k.record_type (records_of z.class n (unwrap_or (fin.get z.sets k) []))
+    go None e = subst (λ (x : Option (List Datum)). IsBlock n k.record_type (records_of z.class n (unwrap_or x [])))
+        (sym e) (no_block n k.record_type)
+    go (Some ds) e = subst (λ (x : Option (List Datum)). IsBlock n k.record_type (records_of z.class n
+        (unwrap_or x []))) (sym e) (set_block z.class n (k, ds)
+        (found_proper k ds (fin.entries z.sets) proper (sym (fin.get-entries z.sets k) ∙ e)))
+
+  -- ---- all sets of an owner
+
+  abbrev kept : NameValue → List (RrKey × List Datum) → List (RrKey × List Datum)
+  kept s es = filter (λ (e : RrKey × List Datum). is_owned s e.0) es
+
+  abbrev given : NameValue → List (RrKey × List Datum) → List (Record RData)
+  given n es = flat_map (λ (e : RrKey × List Datum). records_of z.class n e.1) es
+
+  -- records of other types than one
+  abbrev Lack : RecordType → List (Record RData) → Type 0
+  Lack t rs = AllByRecursion (λ (r : Record RData). type_of_record r ≢ t) rs
+
+  others : (s t : RecordType) (rs : List (Record RData)) → s ≢ t → AreOfType s rs → Lack t rs
+  others s t [] ne h = tt
+  others s t (r ∷ rs) ne h = ((λ e. ne (sym h.0 ∙ e)), others s t rs ne h.1)
+
+  key_apart : (s : NameValue) (a b : RrKey) → is_owned s a ≡ true → is_owned s b ≡ true → is_lt (key_cmp a b) ≡ true
+      → b.record_type ≢ a.record_type
+  key_apart s a b p q less e =
+      let name : b.name ≡ a.name = sym (same_lower-exact (lowered s) b.name q)
+      ∙ same_lower-exact (lowered s) a.name p in
+      let same : b ≡ a = λ i. record { name = name i; record_type = e i } in
+      absurd (false≢true (sym (ap is_lt (tied_itself key_cmp-total a))
+      ∙ ap (λ (k : RrKey). is_lt (key_cmp a k)) (sym same) ∙ less))
+
+  lack_later : (s n : NameValue) (a : RrKey) (es : List (RrKey × List Datum)) → is_owned s a ≡ true
+      → below_all key_cmp a es ≡ true → AllByRecursion IsProper es → Lack a.record_type (given n (kept s es))
+  lack_later s n a [] own below all = tt
+  lack_later s n a (e ∷ es) own below all =
+      go (is_owned s e.0) refl (lack_later s n a es own (second_so (is_lt (key_cmp a e.0)) _ below) all.1) where
+        go : (b : Bool) → is_owned s e.0 ≡ b → Lack a.record_type (given n (kept s es))
+            → Lack a.record_type (given n (cond b (e ∷ kept s es) (kept s es)))
+        go true p more = all-append (λ (r : Record RData). type_of_record r ≢ a.record_type) (records_of z.class n e.1)
+            (given n (kept s es)) (others e.0.record_type a.record_type (records_of z.class n e.1)
+            (key_apart s a e.0 own p (first_so (is_lt (key_cmp a e.0)) _ below)) ((set_block z.class n e all.0).kinds))
+            more
+        go false p more = more
+
+  all_once : (s n : NameValue) (es : List (RrKey × List Datum)) → is_sorted key_cmp es ≡ true
+      → AllByRecursion IsProper es → IsDistinct same_record (given n (kept s es))
+  all_once s n [] sorted all = (no_block n types.A).once
+  all_once s n (e ∷ es) sorted all =
+      go (is_owned s e.0) refl (all_once s n es (second_so (below_all key_cmp e.0 es) _ sorted) all.1) where
+        go : (b : Bool) → is_owned s e.0 ≡ b → IsDistinct same_record (given n (kept s es))
+            → IsDistinct same_record (given n (cond b (e ∷ kept s es) (kept s es)))
+        go true p more =
+            let block = set_block z.class n e all.0 in
+            joined (records_of z.class n e.1) (given n (kept s es)) block.once more
+            (apart_by (λ (r : Record RData). type_of_record r ≡ e.0.record_type)
+            (λ (q : Record RData). type_of_record q ≢ e.0.record_type)
+            (λ r q own ne t. ne (sym (one_kind r q t) ∙ own)) (records_of z.class n e.1) (given n (kept s es))
+            block.kinds (lack_later s n e.0 es p (first_so (below_all key_cmp e.0 es) _ sorted) all.1))
+        go false p more = more
+
+  -- ---- what was found
+
+  -- an alias is one, and records stand once, of the type that is asked for
+  abbrev pub AreOnce : RecordType → List (Record RData) → Type 0
+  AreOnce t rs = IsDistinct same_record rs × (is_any t ≡ false → AreOfType t rs)
+
+  abbrev pub IsGood : RecordType → Finding → Type 0
+  IsGood t f = OfFound (λ (r : Record RData). type_of_record r ≡ types.CNAME) (AreOnce t) f
+
+  module _ (t : RecordType) (n : NameValue) where
+    good_asked : (s : NameValue) (b : Bool) → is_any t ≡ b
+        → AreOnce t (cond b (given n (kept s (fin.entries z.sets))) (records z n (key_of s t)))
+    good_asked s true e = (
+      all_once s n (fin.entries z.sets) (is_true (is_sorted key_cmp (fin.entries z.sets))
+          (fin.entries_sorted z.sets)) proper,
+      λ no. absurd (false≢true (sym no ∙ e)),
+    )
+    good_asked s false e = let block = records_block n (key_of s t) in (block.once, λ no. block.kinds)
+
+    pub good_lookup : IsGood t (lookup z t n)
+    good_lookup = of_lookup (λ (r : Record RData). type_of_record r ≡ types.CNAME) (AreOnce t) z t n
+        (λ s e r target h. alias_of z t n (is_cname t || is_any t) (records z n (key_of s types.CNAME)) r target
+        (λ (x : Record RData). type_of_record x ≡ types.CNAME) ((records_block n (key_of s types.CNAME)).kinds) h)
+        (λ s e. good_asked s (is_any t) refl)

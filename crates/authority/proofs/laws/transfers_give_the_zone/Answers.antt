@@ -1,0 +1,5 @@
+use Rattle.authority.proofs.TransferLaws.{between_is}
+use Rattle.authority.proofs.laws.transfers_give_the_zone.Goals as goal
+
+pub returns : goal.returns
+returns c = between_is
