@@ -67,7 +67,8 @@ enum fuzsbanel_refusal {
     FUZSBANEL_NOT_ON_WIRE = 31,       /* a name in data that is relative, which no message can have; an OPT record */
     FUZSBANEL_TOO_LONG = 32,          /* an update or question of more than 65,535 bytes */
     FUZSBANEL_TWO_ANAMES = 33,        /* an update that leaves an owner with two ANAME records, which zone text can't say */
-    FUZSBANEL_CLOSED = 34             /* a zone handle that isn't open */
+    FUZSBANEL_CLOSED = 34,            /* a zone handle that isn't open */
+    FUZSBANEL_NO_SOA = 35             /* a zone that hasn't exactly one record as its SOA */
 };
 
 /* ---- messages (RFC 1035, 4.1) */
@@ -298,6 +299,11 @@ int64_t fuzsbanel_zone_text(struct fuzsbanel_zone_handle *handle, uint8_t *out, 
  * and zone transfers are answered NotImp. Refuses with 34. */
 int64_t fuzsbanel_zone_answer(struct fuzsbanel_zone_handle *handle, const uint8_t *received, size_t received_len,
                               uint16_t most, bool by_stream, uint8_t *out, size_t cap, size_t *needed);
+
+/* Raises the serial of the zone's SOA by one, modulo 2^32 (RFC 1982, 3.1), as a server does after an update (RFC 2136, 3.6),
+ * and answers the new serial. It takes no memory, and so never refuses with 3. Refuses with 34, and with 35 for a zone that
+ * hasn't exactly one record as its SOA. */
+int64_t fuzsbanel_zone_raise_serial(struct fuzsbanel_zone_handle *handle);
 
 /* Closes the handle, and frees what it held. A closed handle stays closed. */
 void fuzsbanel_zone_close(struct fuzsbanel_zone_handle *handle);

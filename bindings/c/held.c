@@ -1,5 +1,5 @@
-/* Holds a zone from call to call, as a server does: it is opened at a text, updated where it is, and its text at the end is
- * what it is opened at again. */
+/* Holds a zone from call to call, as a server does: it is opened at a text, updated where it is, and its serial raised; its
+ * text at the end is what it is opened at again. */
 #include "fuzsbanel.h"
 
 #include <inttypes.h>
@@ -74,6 +74,7 @@ int main(void)
         return 1;
     for (int64_t i = 0; i < len; i++)
         printf("%02x%s", answer[i], i + 1 == len ? "\n" : "");
+    printf("serial %" PRId64 "\n", fuzsbanel_zone_raise_serial(&zone));
     char *text = text_of(&zone);
     if (!text)
         return 1;

@@ -103,6 +103,7 @@ NAMES = {
     32: "an update or question of more than 65,535 bytes",
     33: "an update that leaves an owner with two ANAME records",
     34: "a zone handle that isn't open",
+    35: "a zone that hasn't exactly one record as its SOA",
 }
 
 
@@ -308,6 +309,7 @@ CALLS = {
     "zone_update": HANDLE + BYTES,
     "zone_text": HANDLE + OUT,
     "zone_answer": HANDLE + BYTES + U16 + [ctypes.c_bool] + OUT,
+    "zone_raise_serial": HANDLE,
     "create": U16 + BYTES + BYTES + EDNS + OUT,
     "append": U16 + BYTES + BYTES + [ctypes.c_bool] + EDNS + OUT,
     "compare_and_swap": U16 + BYTES + BYTES + BYTES + EDNS + OUT,
@@ -545,6 +547,9 @@ class Zone:
     >>> with Zone("example.", "@ 300 SOA ns hostmaster 1 2 3 4 5\\n" + www) as held:
     ...     print(text(held.answer(query, 512)).splitlines()[4])
     www.example. 300 IN A 192.0.2.2
+    >>> with Zone("example.", "@ 300 SOA ns hostmaster 4294967295 2 3 4 5\\n" + www) as held:
+    ...     held.raise_serial(), held.raise_serial()
+    (0, 1)
     >>> held.close()
     >>> held.text()
     Traceback (most recent call last):
@@ -572,6 +577,12 @@ class Zone:
         with self._lock:
             limit = 65535 if most is None else most
             return filled(512, "zone_answer", ctypes.byref(self._handle), received, limit, most is None)
+
+    def raise_serial(self) -> int:
+        """Raises the SOA's serial by one, modulo 2^32, as a server does after an update (RFC 1982, 3.1; RFC 2136, 3.6), and
+        answers the new one. It takes no memory of the library's."""
+        with self._lock:
+            return asked("zone_raise_serial", ctypes.byref(self._handle))
 
     def text(self) -> str:
         """The zone as text, which can be opened again with the same origin."""

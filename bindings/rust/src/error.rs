@@ -75,6 +75,7 @@ errors! {
     32 TooLong "an update or question of more than 65,535 bytes",
     33 TwoAnames "an update that leaves an owner with two ANAME records",
     34 Closed "a zone handle that isn't open",
+    35 NoSoa "a zone that hasn't exactly one record as its SOA",
 }
 
 impl std::error::Error for Error {}

@@ -16,6 +16,7 @@ use std::ptr;
 /// let query = b"\0\x09\x01\0\0\x01\0\0\0\0\0\0\x03www\x07example\0\0\x01\0\x01";
 /// let answer = zone.answer(query, Some(512))?.unwrap_or_default();
 /// assert!(fuzsbanel::text(&answer)?.contains("www.example. 300 IN A 192.0.2.1\n"));
+/// assert_eq!(zone.raise_serial(), Ok(2));
 /// # Ok::<(), fuzsbanel::Error>(())
 /// ```
 pub struct Zone {
@@ -93,6 +94,19 @@ impl Zone {
             }
         })?;
         Ok(Some(sent).filter(|sent| !sent.is_empty()))
+    }
+
+    /// Raises the serial of the zone's SOA by one, modulo 2^32, as a server does after an update (RFC 1982, 3.1; RFC 2136,
+    /// 3.6), and answers the new one. It takes no memory.
+    ///
+    /// # Errors
+    ///
+    /// [`Error::NoSoa`] for a zone that hasn't exactly one record as its SOA.
+    pub fn raise_serial(&mut self) -> Result<u32, Error> {
+        // SAFETY: as in `update`.
+        let answer = unsafe { calls::fuzsbanel_zone_raise_serial(&mut self.handle) };
+        // A serial has thirty-two bits.
+        calls::length(answer).map(|serial| serial as u32)
     }
 
     /// The zone as text, which can be opened again with the same origin. A call that reads takes the handle for itself too.

@@ -135,6 +135,15 @@ fn a_zone_is_held() {
 }
 
 #[test]
+fn a_serial_is_raised() {
+    let mut zone = fuzsbanel::Zone::open("example.", ZONE).unwrap();
+    assert_eq!(zone.raise_serial(), Ok(2));
+    assert!(zone.text().unwrap().contains(" 2 2 3 4 5\n"));
+    let mut empty = fuzsbanel::Zone::open("example.", "").unwrap();
+    assert_eq!(empty.raise_serial(), Err(Error::NoSoa));
+}
+
+#[test]
 fn a_zone_answers() {
     let mut zone = fuzsbanel::Zone::open("example.", ZONE).unwrap();
     // RFC 2308, 2.1: no name, and the SOA; a response, and less than a header, are answered by nothing

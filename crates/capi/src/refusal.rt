@@ -50,6 +50,9 @@ impl Refusal {
 
     /// The handle is closed.
     pub const CLOSED: Refusal = Refusal { number: 34 };
+
+    /// The zone has no SOA set of exactly one SOA record.
+    pub const NO_SOA: Refusal = Refusal { number: 35 };
 }
 
 impl From<AllocError> for Refusal {
