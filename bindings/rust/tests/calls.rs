@@ -135,10 +135,17 @@ fn a_zone_is_held() {
 }
 
 #[test]
-fn a_serial_is_raised() {
+fn a_zone_is_transferred() {
     let mut zone = fuzsbanel::Zone::open("example.", ZONE).unwrap();
-    assert_eq!(zone.raise_serial(), Ok(2));
-    assert!(zone.text().unwrap().contains(" 2 2 3 4 5\n"));
+    let serial = zone.raise_serial().unwrap();
+    let query = fuzsbanel::zone_transfer(2, "example.", None).unwrap();
+    let messages: Vec<_> = zone.transfer(&query).map(Result::unwrap).collect();
+    assert_eq!(messages.len(), 1);
+    let text = fuzsbanel::text(&messages[0]).unwrap();
+    assert_eq!(text.matches(&format!(" {serial} ")).count(), 2); // the SOA at the front and at the end
+    assert!(zone.transfer(RESPONSE).next().is_none());
+    let cut: Vec<_> = zone.transfer(&query[..11]).collect();
+    assert_eq!(cut, [Err(Error::Short)]);
     let mut empty = fuzsbanel::Zone::open("example.", "").unwrap();
     assert_eq!(empty.raise_serial(), Err(Error::NoSoa));
 }

@@ -4,7 +4,7 @@ mod asked;
 mod generic;
 mod held;
 mod long_names;
-mod raised;
+mod transferred;
 mod updates;
 mod zone_check;
 

@@ -12,6 +12,8 @@ ghost use Rattle.capi.specs.ZoneHandle.{answer_asked, answer_of, carrier, IsHeld
 pub mod handle;
 mod held;
 mod loose;
+pub mod place;
+pub mod transfer;
 
 use crate::answer::{give, number, refusal_code};
 use crate::applied::has_two_anames;
