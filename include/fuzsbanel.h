@@ -65,9 +65,11 @@ enum fuzsbanel_refusal {
     FUZSBANEL_TYPE = 29,              /* a type that no update here is of: SOA, query and meta types, SIG, WKS, 0 */
     FUZSBANEL_NOT_SOA = 30,           /* a record that isn't the zone's SOA */
     FUZSBANEL_NOT_ON_WIRE = 31,       /* a name in data that is relative, which no message can have; an OPT record */
-    FUZSBANEL_TOO_LONG = 32,          /* an update or question of more than 65,535 bytes */
+    FUZSBANEL_TOO_LONG = 32,          /* an update, question or record that no message of 65,535 bytes holds */
     FUZSBANEL_TWO_ANAMES = 33,        /* an update that leaves an owner with two ANAME records, which zone text can't say */
-    FUZSBANEL_CLOSED = 34             /* a zone handle that isn't open */
+    FUZSBANEL_CLOSED = 34,            /* a zone handle that isn't open */
+    FUZSBANEL_NO_SOA = 35,            /* a zone that hasn't exactly one record as its SOA */
+    FUZSBANEL_NO_PLACE = 36           /* a place of a transfer that no call left */
 };
 
 /* ---- messages (RFC 1035, 4.1) */
@@ -295,9 +297,33 @@ int64_t fuzsbanel_zone_text(struct fuzsbanel_zone_handle *handle, uint8_t *out, 
  * 1034, 4.3.2; RFC 2308; RFC 4592), or a code alone, as FormErr for bytes that are no message. 0 bytes are written where
  * nothing is sent: for a response, or for less than a header. A datagram has at most as many bytes as `most` and the
  * query's EDNS say, and 512 at least; TC says where records are left out. With `by_stream` there may be 65,535. Updates
- * and zone transfers are answered NotImp. Refuses with 34. */
+ * are answered NotImp, and so are zone transfers, which fuzsbanel_zone_serve_transfer has. Refuses with 34. */
 int64_t fuzsbanel_zone_answer(struct fuzsbanel_zone_handle *handle, const uint8_t *received, size_t received_len,
                               uint16_t most, bool by_stream, uint8_t *out, size_t cap, size_t *needed);
+
+/* Raises the serial of the zone's SOA by one, modulo 2^32 (RFC 1982, 3.1), as a server does after an update (RFC 2136, 3.6),
+ * and answers the new serial. It takes no memory, and so never refuses with 3. Refuses with 34, and with 35 for a zone that
+ * hasn't exactly one record as its SOA. */
+int64_t fuzsbanel_zone_raise_serial(struct fuzsbanel_zone_handle *handle);
+
+/* Where the next message of a zone transfer begins. It begins as `struct fuzsbanel_transfer_place place = {0};`, at the
+ * transfer's start; its fields are the library's, and any bytes in it are safe. It may be copied, and kept for as long as
+ * the caller likes: it holds nothing of the zone's. */
+struct fuzsbanel_transfer_place {
+    size_t index;
+    uint16_t record_type;
+    uint8_t kind, is_unknown, is_absolute, name_len;
+    uint8_t name[255];
+};
+
+/* Writes the next message of a zone transfer (RFC 5936, 2.2), and moves the place after it; 0 bytes where nothing is sent:
+ * after the last message, and for a response. `query` is what the client sent, of type AXFR; one for anything else, or for
+ * another zone, is answered by one message with a code alone, and so is one that asks a zone without an SOA. A message has
+ * 65,535 bytes at most, so `out` with as many always has room. The zone has to stay as it is until the last message: after
+ * a change what is left is that of the changed zone. Where it refuses, or has no room, the place stays. Refuses with 34,
+ * as fuzsbanel_check does, with 36 for a place that no call left, and with 32 for a record that no message holds. */
+int64_t fuzsbanel_zone_serve_transfer(struct fuzsbanel_zone_handle *handle, const uint8_t *query, size_t query_len,
+                                      struct fuzsbanel_transfer_place *place, uint8_t *out, size_t cap, size_t *needed);
 
 /* Closes the handle, and frees what it held. A closed handle stays closed. */
 void fuzsbanel_zone_close(struct fuzsbanel_zone_handle *handle);

@@ -1,5 +1,5 @@
-/* Holds a zone from call to call, as a server does: it is opened at a text, updated where it is, and its text at the end is
- * what it is opened at again. */
+/* Holds a zone from call to call, as a server does: it is opened at a text, updated where it is, its serial raised, and all of
+ * it sent; its text at the end is what it is opened at again. */
 #include "fuzsbanel.h"
 
 #include <inttypes.h>
@@ -13,6 +13,7 @@
 #define TEXT(text) (const uint8_t *)(text), strlen(text)
 
 _Static_assert(sizeof(struct fuzsbanel_zone_handle) == 16, "a handle has 16 bytes");
+_Static_assert(sizeof(struct fuzsbanel_transfer_place) == 272, "a place has 272 bytes");
 
 static const char first_zone[] = "@ 3600 SOA ns hostmaster 1 2 3 4 5\n@ 3600 NS ns\nns 60 A 192.0.2.1\n";
 
@@ -48,6 +49,20 @@ static char *text_of(struct fuzsbanel_zone_handle *zone)
     }
 }
 
+/* Prints how many answers each message of the zone's transfer has (RFC 5936, 2.2). */
+static void transfer(struct fuzsbanel_zone_handle *zone)
+{
+    static const uint8_t query[] = "\0\x09\0\0\0\1\0\0\0\0\0\0\7example\0\0\xfc\0\1";
+    static uint8_t message[65535];
+    struct fuzsbanel_transfer_place place = {0};
+    size_t needed;
+    int64_t len;
+    while ((len = fuzsbanel_zone_serve_transfer(zone, query, sizeof query - 1, &place, message, sizeof message, &needed)) > 0)
+        printf("%" PRId64 " bytes, %d answers\n", len, message[6] << 8 | message[7]);
+    if (len < 0)
+        printf("refused %" PRId64 "\n", -len);
+}
+
 int main(void)
 {
     struct fuzsbanel_zone_handle zone = {0};
@@ -74,6 +89,8 @@ int main(void)
         return 1;
     for (int64_t i = 0; i < len; i++)
         printf("%02x%s", answer[i], i + 1 == len ? "\n" : "");
+    printf("serial %" PRId64 "\n", fuzsbanel_zone_raise_serial(&zone));
+    transfer(&zone);
     char *text = text_of(&zone);
     if (!text)
         return 1;

@@ -14,6 +14,19 @@ pub struct ZoneHandle {
     pub is_open: bool,
 }
 
+/// Where the next message of a zone transfer begins: zero bytes at its start. Its fields are the library's.
+#[repr(C)]
+#[derive(Clone)]
+pub struct TransferPlace {
+    pub index: usize,
+    pub record_type: u16,
+    pub kind: u8,
+    pub is_unknown: u8,
+    pub is_absolute: u8,
+    pub name_len: u8,
+    pub name: [u8; 255],
+}
+
 /// How long the name and the text are of a text that may be included.
 #[repr(C)]
 pub struct Included {
@@ -165,6 +178,16 @@ extern "C" {
         received_len: usize,
         most: u16,
         by_stream: bool,
+        out: *mut u8,
+        cap: usize,
+        needed: *mut usize,
+    ) -> i64;
+    pub fn fuzsbanel_zone_raise_serial(handle: *mut ZoneHandle) -> i64;
+    pub fn fuzsbanel_zone_serve_transfer(
+        handle: *mut ZoneHandle,
+        query: *const u8,
+        query_len: usize,
+        place: *mut TransferPlace,
         out: *mut u8,
         cap: usize,
         needed: *mut usize,

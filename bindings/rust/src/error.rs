@@ -72,9 +72,11 @@ errors! {
     29 Type "a type that no update here is of",
     30 NotSoa "a record that isn't the zone's SOA",
     31 NotOnWire "a name in data that is relative, which no message can have",
-    32 TooLong "an update or question of more than 65,535 bytes",
+    32 TooLong "an update, question or record that no message of 65,535 bytes holds",
     33 TwoAnames "an update that leaves an owner with two ANAME records",
     34 Closed "a zone handle that isn't open",
+    35 NoSoa "a zone that hasn't exactly one record as its SOA",
+    36 NoPlace "a place of a transfer that no call left",
 }
 
 impl std::error::Error for Error {}

@@ -1,9 +1,12 @@
 //! A zone that is held from call to call.
 
-use crate::calls::{self, filled, ZoneHandle};
+use crate::calls::{self, filled, TransferPlace, ZoneHandle};
 use crate::error::Error;
 use std::fmt;
 use std::ptr;
+
+/// The most bytes of a message in a stream (RFC 1035, 4.2.2).
+const MAX_MESSAGE: usize = 65_535;
 
 /// A zone: opened at a text, updated where it is, and written as text again.
 ///
@@ -16,6 +19,10 @@ use std::ptr;
 /// let query = b"\0\x09\x01\0\0\x01\0\0\0\0\0\0\x03www\x07example\0\0\x01\0\x01";
 /// let answer = zone.answer(query, Some(512))?.unwrap_or_default();
 /// assert!(fuzsbanel::text(&answer)?.contains("www.example. 300 IN A 192.0.2.1\n"));
+/// assert_eq!(zone.raise_serial(), Ok(2));
+/// let query = fuzsbanel::zone_transfer(2, "example.", None)?;
+/// let messages: Vec<Vec<u8>> = zone.transfer(&query).collect::<Result<_, _>>()?;
+/// assert_eq!(fuzsbanel::header(&messages[0])?.answers, 3); // the SOA, the address, and the SOA once more
 /// # Ok::<(), fuzsbanel::Error>(())
 /// ```
 pub struct Zone {
@@ -95,6 +102,44 @@ impl Zone {
         Ok(Some(sent).filter(|sent| !sent.is_empty()))
     }
 
+    /// Raises the serial of the zone's SOA by one, modulo 2^32, as a server does after an update (RFC 1982, 3.1; RFC 2136,
+    /// 3.6), and answers the new one. It takes no memory.
+    ///
+    /// # Errors
+    ///
+    /// [`Error::NoSoa`] for a zone that hasn't exactly one record as its SOA.
+    pub fn raise_serial(&mut self) -> Result<u32, Error> {
+        // SAFETY: as in `update`.
+        let answer = unsafe { calls::fuzsbanel_zone_raise_serial(&mut self.handle) };
+        // A serial has thirty-two bits.
+        calls::length(answer).map(|serial| serial as u32)
+    }
+
+    /// The messages of the zone transfer that a query of type AXFR asks for, one after the other (RFC 5936, 2.2), each for a
+    /// stream; of another query one with a code alone, and of a response none. While they are asked for the zone stays as it
+    /// is. After an error there are no more.
+    ///
+    /// # Errors
+    ///
+    /// Of each message: the query's first fault, [`Error::TooLong`] for a record that no message holds, and that memory ran
+    /// out.
+    pub fn transfer<'z>(&'z mut self, query: &'z [u8]) -> Transfer<'z> {
+        Transfer {
+            zone: self,
+            query,
+            place: TransferPlace {
+                index: 0,
+                record_type: 0,
+                kind: 0,
+                is_unknown: 0,
+                is_absolute: 0,
+                name_len: 0,
+                name: [0; 255],
+            },
+            is_over: false,
+        }
+    }
+
     /// The zone as text, which can be opened again with the same origin. A call that reads takes the handle for itself too.
     ///
     /// # Errors
@@ -106,6 +151,58 @@ impl Zone {
             // SAFETY: as in `update`, and `filled` hands in a buffer of its own.
             unsafe { calls::fuzsbanel_zone_text(handle, out, cap, needed) }
         })?)
+    }
+}
+
+/// The messages of a zone transfer that are left: see [`Zone::transfer`].
+pub struct Transfer<'z> {
+    zone: &'z mut Zone,
+    query: &'z [u8],
+    place: TransferPlace,
+    is_over: bool,
+}
+
+impl Iterator for Transfer<'_> {
+    type Item = Result<Vec<u8>, Error>;
+
+    fn next(&mut self) -> Option<Result<Vec<u8>, Error>> {
+        if self.is_over {
+            return None;
+        }
+        let handle: *mut ZoneHandle = &mut self.zone.handle;
+        let place: *mut TransferPlace = &mut self.place;
+        let query = self.query;
+        let sent = filled(MAX_MESSAGE, |out, cap, needed| {
+            // SAFETY: as in `Zone::text`; the place is of this value alone, and the bytes are borrowed for the call.
+            unsafe {
+                calls::fuzsbanel_zone_serve_transfer(
+                    handle,
+                    query.as_ptr(),
+                    query.len(),
+                    place,
+                    out,
+                    cap,
+                    needed,
+                )
+            }
+        });
+        match sent {
+            Ok(message) if !message.is_empty() => Some(Ok(message)),
+            Ok(_) => {
+                self.is_over = true;
+                None
+            }
+            Err(e) => {
+                self.is_over = true;
+                Some(Err(e))
+            }
+        }
+    }
+}
+
+impl fmt::Debug for Transfer<'_> {
+    fn fmt(&self, f: &mut fmt::Formatter<'_>) -> fmt::Result {
+        f.write_str("Transfer")
     }
 }
 

@@ -22,7 +22,7 @@ mod walk;
 
 pub use ask::{build_query, response, Response};
 pub use error::Error;
-pub use held::Zone;
+pub use held::{Transfer, Zone};
 pub use update::{
     append, compare_and_swap, create, delete_all, delete_by_rdata, delete_rrset, zone_transfer,
 };

@@ -135,6 +135,22 @@ fn a_zone_is_held() {
 }
 
 #[test]
+fn a_zone_is_transferred() {
+    let mut zone = fuzsbanel::Zone::open("example.", ZONE).unwrap();
+    let serial = zone.raise_serial().unwrap();
+    let query = fuzsbanel::zone_transfer(2, "example.", None).unwrap();
+    let messages: Vec<_> = zone.transfer(&query).map(Result::unwrap).collect();
+    assert_eq!(messages.len(), 1);
+    let text = fuzsbanel::text(&messages[0]).unwrap();
+    assert_eq!(text.matches(&format!(" {serial} ")).count(), 2); // the SOA at the front and at the end
+    assert!(zone.transfer(RESPONSE).next().is_none());
+    let cut: Vec<_> = zone.transfer(&query[..11]).collect();
+    assert_eq!(cut, [Err(Error::Short)]);
+    let mut empty = fuzsbanel::Zone::open("example.", "").unwrap();
+    assert_eq!(empty.raise_serial(), Err(Error::NoSoa));
+}
+
+#[test]
 fn a_zone_answers() {
     let mut zone = fuzsbanel::Zone::open("example.", ZONE).unwrap();
     // RFC 2308, 2.1: no name, and the SOA; a response, and less than a header, are answered by nothing

@@ -4,9 +4,11 @@ mod BoxValues
 mod CheckLemmas
 mod HandleLemmas
 mod HandleValues
+mod KeptLemmas
 mod MessageLemmas
 mod ResponseLemmas
 mod SentLemmas
+mod ServedLemmas
 mod SoundLemmas
 mod TextLemmas
 mod WalkLemmas

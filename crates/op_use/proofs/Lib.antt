@@ -17,6 +17,7 @@ mod Origins
 mod OutcomeSteps
 pub mod OwnerKeys
 mod OwnerParts
+pub mod RaisedLemmas
 mod ServerRowsLemmas
 mod SettleSteps
 pub mod TypeSteps

@@ -23,11 +23,9 @@ returns-then-not-are_sets_in c =
     let fits : FitsWire c.in_ok-origin.sets.entries = c.fits_wire.ensures.0 (search rules) in
     inl (foreign c.in_ok-origin.ensures.made fits (sym c.are_sets_in.ensures ∙ c.if-not-are_sets_in.true))
 
-pub invariant_of-result : goal.invariant_of-result
-invariant_of-result c = record {
-  kept = parsed_map c.in_ok-origin.sets c.in_ok-origin.ensures.kept
-      (sym c.are_sets_in.ensures ∙ c.if-not-are_sets_in.false);
-}
+pub invariant_of-result-clause-kept : goal.invariant_of-result-clause-kept
+invariant_of-result-clause-kept c = parsed_map c.in_ok-origin.sets c.in_ok-origin.ensures.kept
+    (sym c.are_sets_in.ensures ∙ c.if-not-are_sets_in.false)
 
 pub returns : goal.returns
 returns c =
