@@ -33,10 +33,14 @@ import fuzsbanel  # noqa: E402
 SOA, SIG, TSIG, ANY = 6, 24, 250, 255
 QUERY, STATUS, UPDATE = 0, 2, 5
 NO_ERROR, FORM_ERR, SERV_FAIL, NOT_IMP, REFUSED, NOT_AUTH = 0, 1, 2, 4, 5, 9
-# how many bytes of a datagram pass any network (RFC 9715, 3), and the most of a message
-PAYLOAD, MOST = 1232, 65535
+# how many bytes of a datagram pass any network (RFC 9715, 3), the most of a message, and its header
+PAYLOAD, MOST, HEADER = 1232, 65535, 12
+# how many questions and records a message may have that is no update: the question, the SOA of IXFR, OPT and a signature
+FEW = 8
 # how many connections there are in all and of one address, and how many seconds a message and a silence may take
 CONNECTIONS, OF_ONE_ADDRESS, SECONDS = 128, 16, 10
+# how many bytes the system may hold for a client that doesn't read
+ROOM = 1 << 17
 
 Address = Union[ipaddress.IPv4Address, ipaddress.IPv6Address]
 
@@ -46,7 +50,11 @@ class Stop(Exception):
 
 
 def warn(words: str) -> None:
-    print(f"nameserver: {words}", file=sys.stderr, flush=True)
+    """Says something to who started the server, if that can be done."""
+    try:
+        print(f"nameserver: {words}", file=sys.stderr, flush=True)
+    except OSError:
+        pass
 
 
 def with_code(response: bytes, code: int) -> bytes:
@@ -55,6 +63,11 @@ def with_code(response: bytes, code: int) -> bytes:
 
 def with_operation(message: bytes, operation: int) -> bytes:
     return message[:2] + bytes([message[2] & 0x87 | operation << 3]) + message[3:]
+
+
+def bare(message: bytes) -> bytes:
+    """The header of a message with counts of 0: to be answered without reading what comes after it."""
+    return message[:4] + bytes(HEADER - 4)
 
 
 def with_type(message: bytes, query_type: int) -> bytes:
@@ -186,8 +199,9 @@ class HeldZone:
             self._journal.append(update)
             code = self.zone.update(update)
         except (OSError, fuzsbanel.Refusal) as why:
+            self._journal.cut()
             warn(f"an update is not carried out: {why}")
-            code = SERV_FAIL
+            return SERV_FAIL
         if code == NO_ERROR:
             self._journal.keep()
         else:
@@ -297,6 +311,7 @@ class Server:
         if len(self._connections) >= CONNECTIONS or of_one >= OF_ONE_ADDRESS:
             sock.close()
             return
+        sock.setsockopt(socket.SOL_SOCKET, socket.SO_SNDBUF, ROOM)
         connection = Connection(sock, peer)
         self._connections.add(connection)
         self._watch(sock, lambda: self._turn(connection))
@@ -334,22 +349,25 @@ class Server:
 
     def _responses(self, message: bytes, peer: Address, by_stream: bool) -> List[bytes]:
         """What is sent for a message: none, one, or the several of a transfer."""
-        most = None if by_stream else PAYLOAD
+        most, zone = None if by_stream else PAYLOAD, self._held.zone
+        if len(message) < HEADER or (header := fuzsbanel.header(message)).response:
+            return []
+        is_small = header.queries + header.answers + header.authorities + header.additionals <= FEW
+        if header.opcode == UPDATE and not (by_stream and peer in self._update_from):
+            return [self._code_alone(message if is_small else bare(message), REFUSED)]
+        if header.opcode != UPDATE and not is_small:
+            return [self._code_alone(bare(message), FORM_ERR)]
         try:
-            header, items = fuzsbanel.header(message), list(fuzsbanel.walk(message))
+            items = list(fuzsbanel.walk(message))
         except fuzsbanel.Refusal:
-            header, items = None, []
-        if header is None or header.response:
-            response = self._held.zone.answer(message, most)
-        elif any(isinstance(it, fuzsbanel.Record) and it.record_type in (SIG, TSIG) for it in items):
-            response = self._code_alone(message, NOT_AUTH)
-        elif header.opcode == UPDATE:
-            response = self._updated(message, by_stream and peer in self._update_from)
-        elif header.opcode == QUERY and header.queries == 1 and items[0].query_type == ANY and not by_stream:
-            response = self._one_set(message)
-        else:
-            response = self._held.zone.answer(message, most)
-        return [response] if response else []
+            return [zone.answer(message, most)]
+        if any(isinstance(it, fuzsbanel.Record) and it.record_type in (SIG, TSIG) for it in items):
+            return [self._code_alone(message, NOT_AUTH)]
+        if header.opcode == UPDATE:
+            return [self._updated(message)]
+        if header.opcode == QUERY and header.queries == 1 and items[0].query_type == ANY and not by_stream:
+            return [self._one_set(message)]
+        return [zone.answer(message, most)]
 
     def _code_alone(self, message: bytes, code: int) -> bytes:
         """The response that has a code and nothing else: what the library answers to an operation that it doesn't know, with
@@ -359,10 +377,8 @@ class Server:
         response = with_operation(response, operation)
         return with_code(response, code) if response[3] & 15 == NOT_IMP else response
 
-    def _updated(self, message: bytes, is_allowed: bool) -> bytes:
+    def _updated(self, message: bytes) -> bytes:
         """Carries out an update, and answers it. The response is made first, so that nothing can fail afterwards."""
-        if not is_allowed:
-            return self._code_alone(message, REFUSED)
         response = self._code_alone(message, SERV_FAIL)
         if response[3] & 15 != SERV_FAIL:
             return response
