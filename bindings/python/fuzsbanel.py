@@ -103,6 +103,8 @@ NAMES = {
     32: "an update or question of more than 65,535 bytes",
     33: "an update that leaves an owner with two ANAME records",
     34: "a zone handle that isn't open",
+    35: "a zone without an SOA of one record",
+    36: "a place of a transfer that no call left",
 }
 
 
@@ -181,6 +183,18 @@ class OptionFields(ctypes.Structure):
 
 class ZoneHandle(ctypes.Structure):
     _fields_ = [("at", ctypes.c_void_p), ("is_open", ctypes.c_bool)]
+
+
+class TransferPlace(ctypes.Structure):
+    _fields_ = [
+        ("record", ctypes.c_size_t),
+        ("record_type", ctypes.c_uint16),
+        ("kind", ctypes.c_uint8),
+        ("is_unknown", ctypes.c_uint8),
+        ("is_absolute", ctypes.c_uint8),
+        ("name_len", ctypes.c_uint8),
+        ("name", ctypes.c_uint8 * 255),
+    ]
 
 
 class IncludedFields(ctypes.Structure):
@@ -308,6 +322,8 @@ CALLS = {
     "zone_update": HANDLE + BYTES,
     "zone_text": HANDLE + OUT,
     "zone_answer": HANDLE + BYTES + U16 + [ctypes.c_bool] + OUT,
+    "zone_raise_serial": HANDLE,
+    "zone_serve_transfer": HANDLE + BYTES + [ctypes.POINTER(TransferPlace)] + OUT,
     "create": U16 + BYTES + BYTES + EDNS + OUT,
     "append": U16 + BYTES + BYTES + [ctypes.c_bool] + EDNS + OUT,
     "compare_and_swap": U16 + BYTES + BYTES + BYTES + EDNS + OUT,
@@ -545,6 +561,12 @@ class Zone:
     >>> with Zone("example.", "@ 300 SOA ns hostmaster 1 2 3 4 5\\n" + www) as held:
     ...     print(text(held.answer(query, 512)).splitlines()[4])
     www.example. 300 IN A 192.0.2.2
+    >>> with Zone("example.", "@ 300 SOA ns hostmaster 4294967295 2 3 4 5\\n" + www) as held:
+    ...     held.raise_serial(), held.raise_serial()
+    ...     transferred = list(held.transfer(zone_transfer(9, "example.")))
+    ...     [[data_text(message, found.name) for found in records(message) if found.section == 1] for message in transferred]
+    (0, 1)
+    [['ns.example. hostmaster.example. 1 2 3 4 5', '192.0.2.2', 'ns.example. hostmaster.example. 1 2 3 4 5']]
     >>> held.close()
     >>> held.text()
     Traceback (most recent call last):
@@ -572,6 +594,24 @@ class Zone:
         with self._lock:
             limit = 65535 if most is None else most
             return filled(512, "zone_answer", ctypes.byref(self._handle), received, limit, most is None)
+
+    def raise_serial(self) -> int:
+        """Raises the SOA's serial by one, modulo 2^32 (RFC 1982, 3.1; RFC 2136, 3.6), and answers the new one. It takes no
+        memory. A zone that has not exactly one record as its SOA refuses with 35."""
+        with self._lock:
+            return asked("zone_raise_serial", ctypes.byref(self._handle))
+
+    def transfer(self, query: bytes) -> Iterator[bytes]:
+        """The messages of the zone transfer that a query of type AXFR asks for, one after the other (RFC 5936, 2.2), each for
+        a stream; of another query one with a code alone. The zone has to stay as it is till the last was taken: what comes
+        after a change is that of the changed zone."""
+        query, place = bytes(query), TransferPlace()
+        while True:
+            with self._lock:
+                message = filled(65535, "zone_serve_transfer", ctypes.byref(self._handle), query, ctypes.byref(place))
+            if not message:
+                return
+            yield message
 
     def text(self) -> str:
         """The zone as text, which can be opened again with the same origin."""

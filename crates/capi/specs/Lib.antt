@@ -2,6 +2,7 @@ pub mod Answer
 pub mod Applied
 pub mod Header
 pub mod Held
+pub mod KeptPlace
 pub mod Message
 pub mod Query
 pub mod Refusals
@@ -12,3 +13,4 @@ pub mod WalkWhole
 pub mod ZoneCheck
 pub mod ZoneHandle
 pub mod ZoneText
+pub mod ZoneTransfer

@@ -44,3 +44,11 @@ two_anames = 33
 -- the handle is closed
 abbrev pub closed : ℕ
 closed = 34
+
+-- the zone has no SOA set of exactly one SOA record
+abbrev pub no_soa : ℕ
+no_soa = 35
+
+-- the place of a transfer is none that a call left
+abbrev pub no_place : ℕ
+no_place = 36

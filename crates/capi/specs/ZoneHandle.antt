@@ -1,10 +1,13 @@
 -- What calls on a zone that a caller holds make and answer.
 use Rattle.std.specs.List.{list_any}
 use Rattle.std.specs.Prelude.{Err, List, None, Ok, Option, Result, Some, false, if◌then◌else◌, neg_ℤ, option_map, pos}
+use Rattle.std.specs.Option.{option_map_or}
 use Rattle.std.specs.Prelude.{Bool, [], true, ℕ, ℤ}
 use Rattle.std.specs.Prelude.{◌≡◌, ◌⊎◌}
+use Rattle.base.specs.RrKey.{key_of}
 use Rattle.base.specs.names.Labels.{NameValue}
 use Rattle.base.specs.declared.dns_class.DNSClass.TheVariants as classes
+use Rattle.base.specs.declared.record_type.RecordType.TheVariants as types
 use Rattle.base.specs.declared.rr_key.RrKey.{RrKey}
 use Rattle.op.specs.Message.{MessageValue}
 use Rattle.op.specs.ResponseCode.{code_number}
@@ -15,6 +18,7 @@ use Rattle.authority.specs.declared.sending.Carrier.{Carrier}
 use Rattle.base.specs.ProtoError.{proto_number}
 use Rattle.base.specs.declared.error.proto_error.ProtoError.{ProtoError}
 use Rattle.op_use.specs.Applying.{HasSameSets, IsApplied, zone_of_map}
+use Rattle.op_use.specs.RaisedSerial.{IsRaised}
 use Rattle.op_use.specs.Server.{sections_of}
 use Rattle.parsed_zone.specs.Classes.{are_sets_in}
 use Rattle.parsed_zone.specs.ZoneText.{zone_lines}
@@ -23,7 +27,7 @@ use Rattle.txt.specs.ZoneSets.{ZoneSets}
 use Rattle.capi.specs.Answer.{Asked}
 use Rattle.capi.specs.Applied.{are_anames}
 use Rattle.capi.specs.Message.{message_of}
-use Rattle.capi.specs.Refusals.{closed, not_on_wire, other_class, two_anames}
+use Rattle.capi.specs.Refusals.{closed, no_soa, not_on_wire, other_class, two_anames}
 use Rattle.capi.specs.ZoneText.{FitsWire, IsZoneText, zone_asked}
 use Rattle.capi.specs.declared.refusal.Refusal.{Refusal}
 use Rattle.capi.specs.declared.zone_handle.held.HeldZone.{HeldZone}
@@ -95,6 +99,19 @@ abbrev pub IsUpdating : List ℕ → Option HeldZone → Option HeldZone → ℤ
 IsUpdating update None new result = (new ≡ None) × (result ≡ neg_ℤ (pos closed))
 IsUpdating update (Some old) new result =
     (zone : HeldZone) × (new ≡ Some zone) × IsUpdated update old zone result
+
+-- ---- raising the serial
+
+-- The zone has the serial that is answered; or it has no SOA to raise, and stays. All but the sets stays.
+abbrev pub IsRaisedIn : HeldZone → HeldZone → ℤ → Type 0
+IsRaisedIn old new result = (new.origin ≡ old.origin) × ((serial : Option ℕ)
+    × IsRaised (key_of old.origin types.SOA) old.sets new.sets serial
+    × (result ≡ option_map_or (λ n. pos n) (neg_ℤ (pos no_soa)) serial))
+
+-- The zone of the handle is raised so; a closed handle stays closed, and says so.
+abbrev pub IsRaising : Option HeldZone → Option HeldZone → ℤ → Type 0
+IsRaising None new result = (new ≡ None) × (result ≡ neg_ℤ (pos closed))
+IsRaising (Some old) new result = (zone : HeldZone) × (new ≡ Some zone) × IsRaisedIn old zone result
 
 -- ---- answering
 

@@ -50,6 +50,12 @@ impl Refusal {
 
     /// The handle is closed.
     pub const CLOSED: Refusal = Refusal { number: 34 };
+
+    /// The zone has no SOA set of exactly one SOA record.
+    pub const NO_SOA: Refusal = Refusal { number: 35 };
+
+    /// The place of a transfer is none that a call left.
+    pub const NO_PLACE: Refusal = Refusal { number: 36 };
 }
 
 impl From<AllocError> for Refusal {

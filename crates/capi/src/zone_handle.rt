@@ -7,11 +7,13 @@ ghost use Rattle.std.specs.List.{list_any};
 ghost use Rattle.std.specs.Option.{option_map};
 ghost use Rattle.std.specs.Prelude.{◌≡◌, None, Some, false};
 ghost use Rattle.capi.specs.Answer.{IsAnswered, IsAnsweredBy, Makes, MakesBy};
-ghost use Rattle.capi.specs.ZoneHandle.{answer_asked, answer_of, carrier, IsHeldText, IsOpened, IsTextOf, IsUpdated, IsUpdating, Opens};
+ghost use Rattle.capi.specs.ZoneHandle.{answer_asked, answer_of, carrier, IsHeldText, IsOpened, IsRaisedIn, IsRaising, IsTextOf, IsUpdated, IsUpdating, Opens};
 
 pub mod handle;
 mod held;
 mod loose;
+pub mod place;
+pub mod transfer;
 
 use crate::answer::{give, number};
 use crate::applied::has_two_anames;
@@ -20,14 +22,13 @@ use crate::message::message_of;
 use crate::refusal::Refusal;
 use crate::zone::zone_asked;
 use authority::{Carrier, respond};
-use base::{DNSClass, Name};
+use base::{DNSClass, LowerName, RecordType, RrKey};
 use handle::ZoneHandle;
 use held::HeldZone;
 use loose::Loose;
-use op_use::update_in_place;
+use op_use::{raise_serial, update_in_place};
 use parsed_zone::{are_sets_in, zone_lines};
 use std::alloc::{AllocError, Global};
-use std::collections::BTreeMap;
 use std::mem;
 
 /// Opens a handle at the zone of an origin, whose records are those of a text, and answers 0. What the handle held
@@ -77,6 +78,26 @@ pub extern "C" fn fuzsbanel_zone_update(
             let code = update_zone(alloc, &mut zone, update);
             put(handle, zone);
             code
+        }
+        None => number(Err(Refusal::CLOSED)),
+    }
+}
+
+/// Raises the serial of the zone's SOA by one, modulo 2^32, as a server does after an update (RFC 1982, 3.1; RFC 2136,
+/// 3.6), and answers the new serial. All else of the zone stays as it was. Takes no memory, so 3 is never answered.
+///
+/// # Errors
+///
+/// 34 for a closed handle, and 35 for a zone that has not exactly one record of SOA data as its SOA. The zone stays then.
+#[unsafe(no_mangle)]
+pub extern "C" fn fuzsbanel_zone_raise_serial(alloc: Global, handle: &mut ZoneHandle) -> i64
+    ensures { IsRaising handle.old.zone handle.new.zone result }
+{
+    match take(alloc, handle) {
+        Some(mut zone) => {
+            let serial = raise_serial_of(alloc, &mut zone);
+            put(handle, zone);
+            serial
         }
         None => number(Err(Refusal::CLOSED)),
     }
@@ -170,7 +191,8 @@ fn zone_of(alloc: Global, origin: &[u8], text: &[u8]) -> Result<HeldZone, Refusa
     if !are_sets_in(&sets) {
         return Err(Refusal::CLASS);
     }
-    Ok(HeldZone { origin, sets })
+    let soa = RrKey::new(LowerName::new(alloc, &origin)?, RecordType::SOA);
+    Ok(HeldZone { origin, sets, soa })
 }
 
 /// Applies an update to a zone, and answers its code, or minus the number of a refusal.
@@ -181,16 +203,19 @@ fn update_zone(alloc: Global, zone: &mut HeldZone, update: &[u8]) -> i64
         Ok(message) => message,
         Err(refusal) => return number(Err(refusal)),
     };
-    let empty = HeldZone {
-        origin: Name::root(alloc),
-        sets: BTreeMap::new(alloc),
-    };
-    let HeldZone { origin, mut sets } = mem::replace(zone, empty);
-    let answer = update_in_place(alloc, &mut sets, &origin, DNSClass::IN, &message);
-    *zone = HeldZone { origin, sets };
-    match answer {
+    match update_in_place(alloc, &mut zone.sets, &zone.origin, DNSClass::IN, &message) {
         Ok(code) => i64::from(u16::from(code)),
         Err(e) => number(Err(Refusal::from(e))),
+    }
+}
+
+/// Raises the serial of a zone's SOA, and answers it, or minus the number of a refusal.
+fn raise_serial_of(alloc: Global, zone: &mut HeldZone) -> i64
+    ensures { IsRaisedIn zone.old zone.new result }
+{
+    match raise_serial(alloc, &mut zone.sets, &zone.soa) {
+        Some(serial) => i64::from(serial),
+        None => number(Err(Refusal::NO_SOA)),
     }
 }
 

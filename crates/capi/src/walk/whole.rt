@@ -254,7 +254,7 @@ fn tell(stops: &[Stop], items: &mut [Item], names: &mut [u8])
 }
 
 /// Puts a name in wire form at the front of a buffer, and answers how many bytes that takes, which are at most 255.
-fn put_name(name: &Name, room: &mut [u8]) -> u8
+pub(crate) fn put_name(name: &Name, room: &mut [u8]) -> u8
     requires { length (octets_of name.now) ≤ length room.old }
     ensures put { room.new
         ≡ octets_of name.now ++ drop (length (octets_of name.now)) room.old }
