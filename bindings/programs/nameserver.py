@@ -5,33 +5,40 @@ Datagrams have 1,232 bytes at most, whatever a query says, and ANY gets one set 
 carry several queries, one after the other; each message of it has ten seconds to come whole or to be taken, so has its
 silence, and there are few connections for each address and in all.
 
-Updates are taken by TCP alone, since anybody may forge where a datagram comes from, and from the addresses that are
-named. No signature is checked: a message with TSIG or SIG(0) is answered NotAuth. An update is synced to the journal before
-it is carried out, and answered after that; at the start those of the journal are carried out again. The journal belongs to
-the zone file that it began with, and only grows: to begin anew, take it away when you put another file there.
+Updates and transfers are taken by TCP alone, since anybody may forge where a datagram comes from, and from the addresses
+that are named. No signature is checked: a message with TSIG or SIG(0) is answered NotAuth. An update is synced to the
+journal before it is carried out, and answered after that; at the start those of the journal are carried out again. The
+journal belongs to the zone file that it began with, and only grows: to begin anew, take it away when you put another file
+there, as the zone that a transfer brought.
 
-nameserver.py ZONE_FILE ORIGIN ADDRESS PORT JOURNAL [--update-from ADDRESS]..
+The SOA's serial is raised by each update that is answered NoError and has something to change, whether it changed anything
+or not. Then the secondaries that are named are told, by NOTIFY (RFC 1996). IXFR gets the whole zone, or its SOA where there
+is nothing newer (RFC 1995, 2 and 4). All messages of a transfer are made at once: of one zone, while others wait.
+
+nameserver.py ZONE_FILE ORIGIN ADDRESS PORT JOURNAL
+    [--update-from ADDRESS].. [--transfer-to ADDRESS].. [--notify ADDRESS[#PORT]]..
 """
 import argparse
 import collections
-import fcntl
 import hashlib
 import ipaddress
 import os
+import secrets
 import selectors
 import signal
 import socket
 import struct
 import sys
 import time
-import zlib
-from typing import Deque, Iterator, List, Optional, Set, Tuple, Union
+from typing import Deque, List, Optional, Set, Tuple, Union
 
 sys.path.insert(0, os.path.join(os.path.dirname(os.path.realpath(__file__)), "../python"))
 import fuzsbanel  # noqa: E402
+from journal import Journal, Stop, warn  # noqa: E402
 
-SOA, SIG, TSIG, ANY = 6, 24, 250, 255
-QUERY, STATUS, UPDATE = 0, 2, 5
+SOA, SIG, TSIG, IXFR, AXFR, ANY = 6, 24, 250, 251, 252, 255
+QUERY, STATUS, NOTIFY, UPDATE = 0, 2, 4, 5
+ANSWER, AUTHORITY = 1, 2
 NO_ERROR, FORM_ERR, SERV_FAIL, NOT_IMP, REFUSED, NOT_AUTH = 0, 1, 2, 4, 5, 9
 # how many bytes of a datagram pass any network (RFC 9715, 3), the most of a message, and its header
 PAYLOAD, MOST, HEADER = 1232, 65535, 12
@@ -41,20 +48,11 @@ FEW = 8
 CONNECTIONS, OF_ONE_ADDRESS, SECONDS = 128, 16, 10
 # how many bytes the system may hold for a client that doesn't read
 ROOM = 1 << 17
+# how often a secondary is told of a change, how many seconds lie between the first two times, each later time twice as
+# many, and between changes that it is told of (RFC 1996, 3.6)
+TRIES, AGAIN, PAUSE = 6, 2, 1
 
 Address = Union[ipaddress.IPv4Address, ipaddress.IPv6Address]
-
-
-class Stop(Exception):
-    """Why the server can't start or go on, in words."""
-
-
-def warn(words: str) -> None:
-    """Says something to who started the server, if that can be done."""
-    try:
-        print(f"nameserver: {words}", file=sys.stderr, flush=True)
-    except OSError:
-        pass
 
 
 def with_code(response: bytes, code: int) -> bytes:
@@ -78,77 +76,14 @@ def with_type(message: bytes, query_type: int) -> bytes:
     return message[:end - 4] + struct.pack("!H", query_type) + message[end - 2:]
 
 
-class Journal:
-    """The updates that were carried out, in their order, after a head that says what they began at. An entry is its length,
-    the same with each bit turned, so that a damaged length isn't taken for a torn entry, a checksum of the update and of
-    all before it, and the update."""
+def serial_of(soa: fuzsbanel.Record) -> int:
+    """The serial of an SOA, whose data ends in five numbers (RFC 1035, 3.3.13)."""
+    return struct.unpack("!I", soa.data[-20:-16])[0]
 
-    HEAD, ENTRY = struct.Struct("!16s32s"), struct.Struct("!HHI")
-    NAME = b"fuzsbanel log 1\n"
 
-    def __init__(self, path: str, began_at: bytes) -> None:
-        self._path, self._head = path, self.HEAD.pack(self.NAME, began_at)
-        if not os.path.exists(path):
-            self._begin()
-        self._file = os.open(path, os.O_RDWR | os.O_CLOEXEC)
-        try:
-            fcntl.flock(self._file, fcntl.LOCK_EX | fcntl.LOCK_NB)
-        except OSError as why:
-            raise Stop(f"{path}: another server has this journal") from why
-        self._end, self._sum = self.HEAD.size, zlib.crc32(self._head)
-        self._next = self._end, self._sum
-
-    def _begin(self) -> None:
-        """Puts a journal without entries there at once, so that a head is never torn."""
-        with open(f"{self._path}.new", "wb") as file:
-            file.write(self._head)
-            file.flush()
-            os.fsync(file.fileno())
-        os.rename(f"{self._path}.new", self._path)
-        folder = os.open(os.path.dirname(self._path) or ".", os.O_RDONLY)
-        os.fsync(folder)
-        os.close(folder)
-
-    def entries(self) -> Iterator[Tuple[bytes, bool]]:
-        """Each update, and whether it is the last. `keep` or `cut` has to follow each. A torn one at the end is cut off."""
-        with open(self._path, "rb") as file:
-            head, size = file.read(self.HEAD.size), os.fstat(file.fileno()).st_size
-            if len(head) < self.HEAD.size or not head.startswith(self.NAME):
-                raise Stop(f"{self._path}: no journal, or its head is damaged")
-            if head != self._head:
-                raise Stop(f"{self._path}: this journal began with another zone file or origin")
-            while len(fields := file.read(self.ENTRY.size)) == self.ENTRY.size:
-                length, turned, sum_ = self.ENTRY.unpack(fields)
-                update = file.read(length)
-                if turned != length ^ 0xFFFF or len(update) == length and zlib.crc32(update, self._sum) != sum_:
-                    raise Stop(f"{self._path}: the entry at byte {self._end} is damaged")
-                if len(update) < length:
-                    break
-                self._next = self._end + len(fields) + length, sum_
-                yield update, self._next[0] == size
-        if os.fstat(self._file).st_size > self._end:
-            warn(f"{self._path}: a torn entry at byte {self._end} is cut off")
-            self.cut()
-
-    def append(self, update: bytes) -> None:
-        """Writes an entry and syncs it. `keep` or `cut` has to follow, also where it fails."""
-        sum_, length = zlib.crc32(update, self._sum), len(update)
-        entry, written = self.ENTRY.pack(length, length ^ 0xFFFF, sum_) + update, 0
-        while written < len(entry):
-            written += os.pwrite(self._file, entry[written:], self._end + written)
-        os.fdatasync(self._file)
-        self._next = self._end + len(entry), sum_
-
-    def keep(self) -> None:
-        self._end, self._sum = self._next
-
-    def cut(self) -> None:
-        """Cuts off what comes after the entries that were kept."""
-        try:
-            os.ftruncate(self._file, self._end)
-            os.fdatasync(self._file)
-        except OSError as why:
-            raise Stop(f"{self._path}: an entry can't be cut off: {why}") from why
+def is_current(known: int, serial: int) -> bool:
+    """Whether a serial that is known is this one or a greater one (RFC 1982, 3.2)."""
+    return (known - serial) % (1 << 32) < 1 << 31
 
 
 class HeldZone:
@@ -159,14 +94,13 @@ class HeldZone:
             text = file.read()
         try:
             # what a query has after its header is the name in wire form, the type and the class
-            asking = fuzsbanel.build_query(0, origin, SOA)
-            name = asking[12:-4].lower()
+            self.asking = fuzsbanel.build_query(0, origin, SOA, recursion=False)
+            self.name = self.asking[HEADER:-4].lower()
             self.zone = fuzsbanel.Zone(origin, text.decode())
-            if not fuzsbanel.header(self.zone.answer(asking)).answers:
-                raise ValueError("the zone has no SOA")
+            self.serial = self._serial()
         except (ValueError, fuzsbanel.Refusal) as why:
             raise Stop(f"{path}: {self._fault(origin, text) or why}") from why
-        self._journal = Journal(journal, hashlib.sha256(name + text).digest())
+        self._journal = Journal(journal, hashlib.sha256(self.name + text).digest())
         for update, is_last in self._journal.entries():
             self._replay(update, is_last)
 
@@ -178,6 +112,12 @@ class HeldZone:
             return None
         return fault and f"line {fault.line}, column {fault.column}: {fault.words}"
 
+    def _serial(self) -> int:
+        for record in fuzsbanel.records(self.zone.answer(self.asking)):
+            if record.section == ANSWER:
+                return serial_of(record)
+        raise ValueError("the zone has no SOA")
+
     def _replay(self, update: bytes, is_last: bool) -> None:
         """Carries out an update of the journal. One with another code than NoError may be the last alone: the server ended
         before it cut that off."""
@@ -186,7 +126,7 @@ class HeldZone:
         except fuzsbanel.Refusal as why:
             raise Stop(f"an update of the journal is refused: {why}") from why
         if code == NO_ERROR:
-            self._journal.keep()
+            self._keep(update)
         elif is_last:
             self._journal.cut()
         else:
@@ -203,10 +143,56 @@ class HeldZone:
             warn(f"an update is not carried out: {why}")
             return SERV_FAIL
         if code == NO_ERROR:
-            self._journal.keep()
+            self._keep(update)
         else:
             self._journal.cut()
         return code
+
+    def _keep(self, update: bytes) -> None:
+        """Keeps the entry of an update that was carried out, and raises the serial. Only without an update section it surely
+        changed nothing: of others the library doesn't say."""
+        self._journal.keep()
+        if fuzsbanel.header(update).authorities:
+            try:
+                self.serial = self.zone.raise_serial()
+            except fuzsbanel.Refusal as why:
+                raise Stop(f"the serial isn't raised: {why}") from why
+
+
+class Secondary:
+    """A secondary, which is told of changes by NOTIFY until it says that it heard (RFC 1996, 3)."""
+
+    def __init__(self, address: Address, port: int, source: Address, asking: bytes) -> None:
+        self._asking = with_operation(asking[:2] + b"\4" + asking[3:], NOTIFY)
+        self._id, self._tries, self._told = 0, 0, 0.0
+        self.due: Optional[float] = None
+        self.sock = socket.socket(socket.AF_INET if address.version == 4 else socket.AF_INET6, socket.SOCK_DGRAM)
+        # connected, so that the system hands on nothing from elsewhere
+        self.sock.bind((str(source), 0))
+        self.sock.connect((str(address), port))
+
+    def tell(self) -> None:
+        """Has it told of a change, at once or when the last one is some time ago."""
+        self._id, self._tries = secrets.randbelow(1 << 16), 0
+        self.due = max(time.monotonic(), self._told + PAUSE)
+
+    def send(self) -> None:
+        """Tells it once, and says when next."""
+        self._told = time.monotonic()
+        self.due = self._told + AGAIN * 2 ** self._tries if self._tries < TRIES - 1 else None
+        self._tries += 1
+        try:
+            self.sock.send(struct.pack("!H", self._id) + self._asking[2:])
+        except OSError:
+            pass
+
+    def hear(self) -> None:
+        try:
+            header = fuzsbanel.header(self.sock.recv(MOST))
+        except (OSError, fuzsbanel.Refusal):
+            return
+        if header.response and header.opcode == NOTIFY and header.id == self._id:
+            self.due = None
 
 
 class Connection:
@@ -214,7 +200,8 @@ class Connection:
 
     def __init__(self, sock: socket.socket, peer: Address) -> None:
         self.sock, self.peer, self.is_ended = sock, peer, False
-        self.received, self.sending = bytearray(), collections.deque()  # type: bytearray, Deque[memoryview]
+        self.received = bytearray()
+        self.sending: Deque[memoryview] = collections.deque()
         self._taken, self._stage, self.end = 0, (), 0.0
         self.note_progress()
 
@@ -250,8 +237,10 @@ class Connection:
 class Server:
     """Answers what comes, until it is told to end."""
 
-    def __init__(self, held: HeldZone, address: Address, port: int, update_from: Set[Address]) -> None:
-        self._held, self._update_from = held, update_from
+    def __init__(self, held: HeldZone, address: Address, port: int, update_from: Set[Address],
+                 transfer_to: Set[Address], secondaries: List[Secondary]) -> None:
+        self._held, self._update_from, self._transfer_to = held, update_from, transfer_to
+        self._secondaries = secondaries
         self._connections: Set[Connection] = set()
         self._selector, self._is_ending = selectors.DefaultSelector(), False
         family = socket.AF_INET if address.version == 4 else socket.AF_INET6
@@ -267,6 +256,9 @@ class Server:
         self._tcp.listen()
         self._watch(self._udp, self._datagram)
         self._watch(self._tcp, self._accept)
+        for secondary in secondaries:
+            self._watch(secondary.sock, secondary.hear)
+            secondary.tell()
         # a signal ends the server between two messages, and never within one
         woken, waking = socket.socketpair()
         waking.setblocking(False)
@@ -285,13 +277,16 @@ class Server:
 
     def run(self) -> None:
         while not self._is_ending:
-            ends = [connection.end for connection in self._connections]
-            left = max(min(ends) - time.monotonic(), 0) if ends else None
-            for key, _ in self._selector.select(left):
+            times = [connection.end for connection in self._connections]
+            times += [secondary.due for secondary in self._secondaries if secondary.due is not None]
+            for key, _ in self._selector.select(max(min(times) - time.monotonic(), 0) if times else None):
                 key.data()
             now = time.monotonic()
             for connection in [it for it in self._connections if it.end <= now]:
                 self._close(connection)
+            for secondary in self._secondaries:
+                if secondary.due is not None and secondary.due <= now:
+                    secondary.send()
 
     def _datagram(self) -> None:
         try:
@@ -365,7 +360,11 @@ class Server:
             return [self._code_alone(message, NOT_AUTH)]
         if header.opcode == UPDATE:
             return [self._updated(message)]
-        if header.opcode == QUERY and header.queries == 1 and items[0].query_type == ANY and not by_stream:
+        query_type = items[0].query_type if header.opcode == QUERY and header.queries == 1 else 0
+        if query_type in (IXFR, AXFR):
+            is_allowed = peer in self._transfer_to
+            return self._transfer(message, items, by_stream) if is_allowed else [self._code_alone(message, REFUSED)]
+        if query_type == ANY and not by_stream:
             return [self._one_set(message)]
         return [zone.answer(message, most)]
 
@@ -384,14 +383,39 @@ class Server:
             return response
         if fuzsbanel.check(message) != len(message):
             return with_code(response, FORM_ERR)
-        return with_code(response, self._held.update(message))
+        before, code = self._held.serial, self._held.update(message)
+        if self._held.serial != before:
+            for secondary in self._secondaries:
+                secondary.tell()
+        return with_code(response, code)
+
+    def _transfer(self, message: bytes, items: List[Union[fuzsbanel.Query, fuzsbanel.Record]], by_stream: bool) -> List[bytes]:
+        """The messages of a transfer; for IXFR the SOA alone, where nothing is newer, or where a datagram asks, which says
+        that TCP should be used (RFC 1995, 2)."""
+        [question, *records] = items
+        if question.query_type == IXFR and question.owner.lower() == self._held.name:
+            known = [serial_of(it) for it in records if it.section == AUTHORITY and it.record_type == SOA and it.data]
+            if len(known) != 1:
+                return [self._code_alone(message, FORM_ERR)]
+            if not by_stream or is_current(known[0], self._held.serial):
+                answer = self._held.zone.answer(with_type(message, SOA), None if by_stream else PAYLOAD)
+                return [with_type(answer, IXFR)]
+        if not by_stream:
+            return [self._code_alone(message, REFUSED)]
+        return [with_type(it, question.query_type) for it in self._held.zone.transfer(with_type(message, AXFR))]
 
     def _one_set(self, message: bytes) -> bytes:
         """What a datagram has for ANY: the first set of the whole answer (RFC 8482, 4.1)."""
         for record in fuzsbanel.records(self._held.zone.answer(message)):
-            if record.section == 1:
+            if record.section == ANSWER:
                 return with_type(self._held.zone.answer(with_type(message, record.record_type), PAYLOAD), ANY)
         return self._held.zone.answer(message, PAYLOAD)
+
+
+def secondary_of(word: str) -> Tuple[Address, int]:
+    """The address of a secondary, and the port after a `#` if there is one."""
+    address, _, port = word.partition("#")
+    return ipaddress.ip_address(address), int(port or 53)
 
 
 def main() -> None:
@@ -401,12 +425,15 @@ def main() -> None:
     words.add_argument("address", type=ipaddress.ip_address)
     words.add_argument("port", type=int)
     words.add_argument("journal")
-    words.add_argument("--update-from", type=ipaddress.ip_address, action="append", default=[], metavar="ADDRESS")
+    named = {"update-from": ipaddress.ip_address, "transfer-to": ipaddress.ip_address, "notify": secondary_of}
+    for word, type_ in named.items():
+        words.add_argument(f"--{word}", type=type_, action="append", default=[], metavar="ADDRESS")
     given = words.parse_args()
     try:
         held = HeldZone(given.zone_file, given.origin, given.journal)
-        server = Server(held, given.address, given.port, set(given.update_from))
-        warn(f"{given.origin} at {given.address} port {server.port}")
+        secondaries = [Secondary(*it, given.address, held.asking) for it in given.notify]
+        server = Server(held, given.address, given.port, set(given.update_from), set(given.transfer_to), secondaries)
+        warn(f"{given.origin} with serial {held.serial} at {given.address} port {server.port}")
         server.run()
     except (OSError, OverflowError, Stop) as why:
         sys.exit(f"nameserver: {why}")

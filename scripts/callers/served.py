@@ -14,9 +14,11 @@ import fuzsbanel  # noqa: E402
 
 NAMESERVER = f"{ROOT}/bindings/programs/nameserver.py"
 HOST, ORIGIN = "127.0.0.1", "example."
-A, SOA, TXT, IXFR, AXFR, ANY = 1, 6, 16, 251, 252, 255
+A, SOA, MX, TXT, OPT, TSIG, IXFR, AXFR, ANY = 1, 6, 15, 16, 41, 250, 251, 252, 255
 NO_ERROR, FORM_ERR, SERV_FAIL, NX_DOMAIN, NOT_IMP, REFUSED, YX_RRSET, NOT_AUTH = 0, 1, 2, 3, 4, 5, 7, 9
 LIMIT = 10
+# before the words of a program that is killed with this one, however that ends
+DYING = ["setpriv", "--pdeathsig", "KILL"]
 ZONE = """$TTL 300
 @ SOA ns hostmaster 1 7200 3600 1209600 60
 @ NS ns
@@ -59,10 +61,9 @@ class Served:
         self.zone, self.journal, self.said = f"{folder}/zone", f"{folder}/journal", f"{folder}/said"
         with open(self.zone, "w", encoding="utf-8") as file:
             file.write(text)
-        # killed with this process, however that ends
-        command = ["setpriv", "--pdeathsig", "KILL", *before, sys.executable, NAMESERVER, self.zone, ORIGIN, HOST, str(free_port()), self.journal, *words]
+        command = [*DYING, *before, sys.executable, NAMESERVER, self.zone, ORIGIN, HOST, str(free_port()), self.journal]
         with open(self.said, "w", encoding="utf-8") as said:
-            self.process = subprocess.Popen(command, stdin=subprocess.DEVNULL, stdout=said, stderr=said)
+            self.process = subprocess.Popen([*command, *words], stdin=subprocess.DEVNULL, stdout=said, stderr=said)
         self.port = self._port()
 
     def words(self):
@@ -182,4 +183,5 @@ def unsigned(message):
     """The message with a TSIG record that nobody made, the last of it."""
     data = b"\x0bhmac-sha256\0" + struct.pack("!HIHHHHH", 0, 0, 300, 0, 0, 0, 0)
     count = struct.unpack("!H", message[10:12])[0] + 1
-    return message[:10] + struct.pack("!H", count) + message[12:] + b"\1k\0" + struct.pack("!HHIH", 250, 255, 0, len(data)) + data
+    record = b"\1k\0" + struct.pack("!HHIH", TSIG, 255, 0, len(data)) + data
+    return message[:10] + struct.pack("!H", count) + message[12:] + record

@@ -32,7 +32,8 @@ def try_queries():
         for way, types in ((server.by_datagram, 1), (lambda it: server.by_stream(it)[0], 2)):
             answer = way(query("www.example", ANY))
             [asked, *records] = fuzsbanel.walk(answer)
-            want(asked.query_type == ANY and len({it.record_type for it in records}) == types, f"ANY: {fuzsbanel.text(answer)}")
+            found = {it.record_type for it in records}
+            want(asked.query_type == ANY and len(found) == types, f"ANY: {fuzsbanel.text(answer)}")
         want(fuzsbanel.header(server.by_datagram(unsigned(query("www.example")))).rcode == NOT_AUTH, "TSIG by UDP")
         want(server.code(unsigned(query("www.example"))) == NOT_AUTH, "TSIG by TCP")
         want(server.by_datagram(b"\0" * 11, 0.2) is None, "less than a header is answered")
@@ -78,7 +79,8 @@ def damaged(messages):
 
 def try_damaged():
     random.seed(1)
-    messages = [query("www.example", A, 1232), query("www.example", ANY), query(ORIGIN, AXFR), added("www"), unsigned(added("www")),
+    messages = [query("www.example", A, 1232), query("www.example", ANY), query(ORIGIN, AXFR), added("www"),
+                unsigned(added("www")), fuzsbanel.delete_rrset(7, ORIGIN, "no", A),
                 fuzsbanel.zone_transfer(7, ORIGIN, "@ 300 SOA ns hostmaster 1 2 3 4 5"), fuzsbanel.delete_all(7, ORIGIN, "no"),
                 fuzsbanel.compare_and_swap(7, ORIGIN, "www 300 A 192.0.2.3", "www 300 A 192.0.2.5")]
     good = query("ns.example")
