@@ -80,6 +80,9 @@ class Journal:
         os.fdatasync(self._file)
         self._next = self._end + len(entry), sum_
 
+    def close(self) -> None:
+        os.close(self._file)
+
     def keep(self) -> None:
         self._end, self._sum = self._next
 

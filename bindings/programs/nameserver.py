@@ -46,6 +46,8 @@ PAYLOAD, MOST, HEADER = 1232, 65535, 12
 FEW = 8
 # how many connections there are in all and of one address, and how many seconds a message and a silence may take
 CONNECTIONS, OF_ONE_ADDRESS, SECONDS = 128, 16, 10
+# how many datagrams may be answered before each connection has a message answered
+DATAGRAMS = 16
 # how many bytes the system may hold for a client that doesn't read
 ROOM = 1 << 17
 # how often a secondary is told of a change, how many seconds lie between the first two times, each later time twice as
@@ -53,6 +55,10 @@ ROOM = 1 << 17
 TRIES, AGAIN, PAUSE = 6, 2, 1
 
 Address = Union[ipaddress.IPv4Address, ipaddress.IPv6Address]
+
+
+def address_of(source: tuple) -> Address:
+    return ipaddress.ip_address(source[0].partition("%")[0])
 
 
 def with_code(response: bytes, code: int) -> bytes:
@@ -96,7 +102,8 @@ class HeldZone:
             # what a query has after its header is the name in wire form, the type and the class
             self.asking = fuzsbanel.build_query(0, origin, SOA, recursion=False)
             self.name = self.asking[HEADER:-4].lower()
-            self.zone = fuzsbanel.Zone(origin, text.decode())
+            # a last line without an end would be passed over, if it is no record
+            self.zone = fuzsbanel.Zone(origin, text.decode() + "\n")
             self.serial = self._serial()
         except (ValueError, fuzsbanel.Refusal) as why:
             raise Stop(f"{path}: {self._fault(origin, text) or why}") from why
@@ -107,7 +114,7 @@ class HeldZone:
     @staticmethod
     def _fault(origin: str, text: bytes) -> Optional[str]:
         try:
-            fault = fuzsbanel.zone_check(origin, text.decode())
+            fault = fuzsbanel.zone_check(origin, text.decode() + "\n")
         except (ValueError, fuzsbanel.Refusal):
             return None
         return fault and f"line {fault.line}, column {fault.column}: {fault.words}"
@@ -149,14 +156,18 @@ class HeldZone:
         return code
 
     def _keep(self, update: bytes) -> None:
-        """Keeps the entry of an update that was carried out, and raises the serial. Only without an update section it surely
-        changed nothing: of others the library doesn't say."""
+        """Keeps the entry of an update that was carried out, and raises the serial if its header counts any change: whether
+        that changed the zone the library doesn't say."""
         self._journal.keep()
-        if fuzsbanel.header(update).authorities:
+        if struct.unpack("!H", update[8:10])[0]:
             try:
                 self.serial = self.zone.raise_serial()
             except fuzsbanel.Refusal as why:
                 raise Stop(f"the serial isn't raised: {why}") from why
+
+    def close(self) -> None:
+        self._journal.close()
+        self.zone.close()
 
 
 class Secondary:
@@ -289,19 +300,22 @@ class Server:
                     secondary.send()
 
     def _datagram(self) -> None:
-        try:
-            message, source = self._udp.recvfrom(MOST)
-            for response in self._responses(message, ipaddress.ip_address(source[0].partition("%")[0]), False):
-                self._udp.sendto(response, source)
-        except (OSError, fuzsbanel.Refusal):
-            pass
+        for _ in range(DATAGRAMS):
+            try:
+                message, source = self._udp.recvfrom(MOST)
+                for response in self._responses(message, address_of(source), False):
+                    self._udp.sendto(response, source)
+            except BlockingIOError:
+                return
+            except (OSError, fuzsbanel.Refusal):
+                continue
 
     def _accept(self) -> None:
         try:
             sock, source = self._tcp.accept()
         except OSError:
             return
-        peer = ipaddress.ip_address(source[0].partition("%")[0])
+        peer = address_of(source)
         of_one = sum(connection.peer == peer for connection in self._connections)
         if len(self._connections) >= CONNECTIONS or of_one >= OF_ONE_ADDRESS:
             sock.close()
@@ -329,8 +343,9 @@ class Server:
                 if not responses:
                     # what gets no answer isn't meant for a server
                     raise ConnectionError
+                connection.send()
         except BlockingIOError:
-            return
+            pass
         except (OSError, fuzsbanel.Refusal):
             self._close(connection)
             return
@@ -435,6 +450,7 @@ def main() -> None:
         server = Server(held, given.address, given.port, set(given.update_from), set(given.transfer_to), secondaries)
         warn(f"{given.origin} with serial {held.serial} at {given.address} port {server.port}")
         server.run()
+        held.close()
     except (OSError, OverflowError, Stop) as why:
         sys.exit(f"nameserver: {why}")
 

@@ -6,7 +6,7 @@ import tempfile
 import time
 
 from served import (AXFR, DYING, FORM_ERR, HOST, IXFR, LIMIT, NOT_AUTH, OPT, ORIGIN, REFUSED, SOA, ZONE, Served, added, fail,
-                    framed, free_port, fuzsbanel, query, run, taken, want)
+                    framed, free_port, fuzsbanel, query, run, transferred, want)
 
 ALLOWED = ("--update-from", HOST, "--transfer-to", HOST)
 MANY = 3000
@@ -23,18 +23,6 @@ zone "example." { type secondary; file "copy"; masterfile-format text; primaries
 
 def ixfr(serial):
     return fuzsbanel.zone_transfer(7, ORIGIN, f"@ 300 SOA ns hostmaster {serial} 2 3 4 5")
-
-
-def transferred(sock):
-    """The records of a transfer, by as many messages as it takes, and how many those are."""
-    records, count = [], 0
-    while not records or records[-1] != records[0]:
-        message = taken(sock)
-        want(message is not None and fuzsbanel.header(message).rcode == 0, "a transfer breaks off")
-        records += [(fuzsbanel.name(message, it.name), it.record_type, it.ttl, fuzsbanel.data_text(message, it.name))
-                    for it in fuzsbanel.records(message) if it.section == 1]
-        count += 1
-    return records, count
 
 
 def in_zone(text):

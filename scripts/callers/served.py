@@ -9,7 +9,7 @@ import time
 
 from common import ROOT
 
-sys.path.insert(0, f"{ROOT}/bindings/python")
+sys.path[:0] = [f"{ROOT}/bindings/python", f"{ROOT}/bindings/programs"]
 import fuzsbanel  # noqa: E402
 
 NAMESERVER = f"{ROOT}/bindings/programs/nameserver.py"
@@ -168,6 +168,18 @@ def taken(sock):
             return None
         received += piece
     return received[2:]
+
+
+def transferred(sock):
+    """The records of a transfer, by as many messages as it takes, and how many those are."""
+    records, count = [], 0
+    while not records or records[-1] != records[0]:
+        message = taken(sock)
+        want(message is not None and fuzsbanel.header(message).rcode == 0, "a transfer breaks off")
+        records += [(fuzsbanel.name(message, it.name), it.record_type, it.ttl, fuzsbanel.data_text(message, it.name))
+                    for it in fuzsbanel.records(message) if it.section == 1]
+        count += 1
+    return records, count
 
 
 def query(name, record_type=A, payload=0):

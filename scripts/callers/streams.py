@@ -2,11 +2,12 @@
 import os
 import random
 import socket
+import struct
 import tempfile
 import time
 
 from served import (A, ANY, AXFR, HOST, LIMIT, NOT_AUTH, ORIGIN, TXT, Served, added, framed, fuzsbanel, query, taken,
-                    unsigned, want)
+                    transferred, unsigned, want)
 
 DAMAGED, SLOW_ADDRESSES, SLOW_OF_EACH, UNREAD = 10_000, 5, 10, 3
 # what the server allows
@@ -36,6 +37,8 @@ def try_queries():
             want(asked.query_type == ANY and len(found) == types, f"ANY: {fuzsbanel.text(answer)}")
         want(fuzsbanel.header(server.by_datagram(unsigned(query("www.example")))).rcode == NOT_AUTH, "TSIG by UDP")
         want(server.code(unsigned(query("www.example"))) == NOT_AUTH, "TSIG by TCP")
+        crowd = struct.pack("!HHHHHH", 7, 0, 9000, 0, 0, 0) + query("www.example")[12:] + b"\xc0\x0c\0\1\0\1" * 8999
+        want(server.by_stream(crowd)[0] == struct.pack("!HHHHHH", 7, 0x8001, 0, 0, 0, 0), "a message of 9,000 questions")
         want(server.by_datagram(b"\0" * 11, 0.2) is None, "less than a header is answered")
         want(server.by_datagram(server.by_datagram(query("www.example")), 0.2) is None, "a response is answered")
     print("nameserver: queries by dig, sizes of datagrams, ANY and TSIG")
@@ -83,25 +86,37 @@ def try_damaged():
                 unsigned(added("www")), fuzsbanel.delete_rrset(7, ORIGIN, "no", A),
                 fuzsbanel.zone_transfer(7, ORIGIN, "@ 300 SOA ns hostmaster 1 2 3 4 5"), fuzsbanel.delete_all(7, ORIGIN, "no"),
                 fuzsbanel.compare_and_swap(7, ORIGIN, "www 300 A 192.0.2.3", "www 300 A 192.0.2.5")]
-    good = query("ns.example")
-    with tempfile.TemporaryDirectory() as folder, Served(folder, "--update-from", HOST) as server:
-        answer = server.by_datagram(good)
-        with socket.socket(socket.AF_INET, socket.SOCK_DGRAM) as sock:
-            for _ in range(DAMAGED // 100):
-                for _ in range(50):
-                    sock.sendto(damaged(messages), (HOST, server.port))
-                with server.connected() as stream:
-                    try:
-                        stream.sendall(b"".join(framed(damaged(messages)) for _ in range(50)))
-                        stream.shutdown(socket.SHUT_WR)
-                        while taken(stream) is not None:
-                            pass
-                    except ConnectionError:
-                        pass
-                want(server.process.poll() is None, f"damaged messages ended the server: {server.words()}")
-                want(server.by_datagram(good) == answer, "a good query after damaged ones")
-        size = os.path.getsize(server.journal)
+    words = "--update-from", HOST, "--transfer-to", HOST
+    with tempfile.TemporaryDirectory() as folder:
+        with Served(folder, *words) as server:
+            send_damaged(server, messages)
+            zone, size = whole(server), os.path.getsize(server.journal)
+        with Served(folder, *words) as server:
+            want(whole(server) == zone, "another zone after a start")
     print(f"nameserver: {DAMAGED} damaged messages, by which {size} bytes of updates were carried out")
+
+
+def whole(server):
+    with server.connected() as sock:
+        sock.sendall(framed(query(ORIGIN, AXFR)))
+        return transferred(sock)
+
+
+def send_damaged(server, messages):
+    good = query("ns.example")
+    answer, stream = server.by_datagram(good), server.connected()
+    with socket.socket(socket.AF_INET, socket.SOCK_DGRAM) as sock:
+        for _ in range(DAMAGED // 100):
+            for _ in range(50):
+                sock.sendto(damaged(messages), (HOST, server.port))
+                stream.sendall(framed(damaged(messages)))
+                if taken(stream) is None:
+                    # it had QR, or was less than a header
+                    stream.close()
+                    stream = server.connected()
+            want(server.process.poll() is None, f"damaged messages ended the server: {server.words()}")
+            want(server.by_datagram(good) == answer, "a good query after damaged ones")
+    stream.close()
 
 
 def try_slow():

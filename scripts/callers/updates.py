@@ -9,6 +9,7 @@ import time
 
 from served import (A, HOST, LIMIT, NOT_AUTH, ORIGIN, REFUSED, SERV_FAIL, TXT, YX_RRSET, ZONE, Served, added, fail, fuzsbanel,
                     query, unsigned, want)
+import nameserver  # noqa: E402
 
 ALLOWED = ("--update-from", HOST)
 HEAD, ENTRY = 48, 8
@@ -104,6 +105,11 @@ def try_journal():
             want(restarted(folder, wrong)[0] is None, "a journal without its head, or with entries in another order")
         with Served(folder, *ALLOWED, text=ZONE + "more A 192.0.2.1\n") as server:
             want(server.port is None and server.ended() == 1, "another zone file")
+        wrong_zones = [(ZONE + "a A 192.0.2\n", f"line {ZONE.count(chr(10)) + 1}, column 3: invalid data for type A"),
+                       (ZONE + "$INCLUDE x", "no text named x"), ("www 300 A 192.0.2.1\n", "the zone has no SOA")]
+        for text, words in wrong_zones:
+            with Served(folder, text=text) as server:
+                want(server.port is None and server.ended() == 1 and words in server.words(), f"a zone: {server.words()}")
         restarted(folder, journal)
         with Served(folder, *ALLOWED) as server, Served(folder, *ALLOWED) as other:
             want(other.port is None and other.ended() == 1 and server.has("c.example") == 1, "two servers of one journal")
@@ -171,6 +177,36 @@ def try_order():
         seen = [name for name, _ in traced.calls() if name != "recvfrom"]
         want(seen == ["pwrite64", "fdatasync", "sendto"] * count, f"{count} updates make the calls {seen}")
     print(f"nameserver: {count} updates, each written, synced and answered in this order")
+
+
+def try_refused_memory():
+    """Where the library has no memory for an update, the update isn't in the journal; where the serial isn't raised, the
+    server ends, and a start carries the update out."""
+    with tempfile.TemporaryDirectory() as folder:
+        with open(f"{folder}/zone", "w", encoding="utf-8") as file:
+            file.write(ZONE)
+        words = f"{folder}/zone", ORIGIN, f"{folder}/journal"
+        held = nameserver.HeldZone(*words)
+        before, journal = held.zone.text(), contents(words[2])
+        carry_out, held.zone.update = held.zone.update, refuse
+        want(held.update(added("a")) == SERV_FAIL, "refused memory and no ServFail")
+        want((held.zone.text(), contents(words[2])) == (before, journal), "an update that memory ran out for")
+        held.zone.update, held.zone.raise_serial = carry_out, refuse
+        try:
+            held.update(added("a"))
+            fail("a server goes on with a serial that isn't raised")
+        except nameserver.Stop:
+            pass
+        serial = held.serial
+        held.close()
+        again = nameserver.HeldZone(*words)
+        want((again.serial, "a.example." in again.zone.text()) == (serial + 1, True), "a start after that")
+        again.close()
+    print("nameserver: memory that is refused")
+
+
+def refuse(*_):
+    raise fuzsbanel.Refusal(3)
 
 
 def try_faults():
