@@ -3,6 +3,7 @@ import fcntl
 import os
 import struct
 import sys
+import tempfile
 import zlib
 from typing import Iterator, Tuple
 
@@ -40,12 +41,12 @@ class Journal:
         self._next = self._end, self._sum
 
     def _begin(self) -> None:
-        """Puts a journal without entries there at once, so that a head is never torn."""
-        with open(f"{self._path}.new", "wb") as file:
+        """Puts a journal without entries there at once, so that a head is never torn, and never in the place of another's."""
+        with tempfile.NamedTemporaryFile(dir=os.path.dirname(self._path) or ".") as file:
             file.write(self._head)
             file.flush()
             os.fsync(file.fileno())
-        os.rename(f"{self._path}.new", self._path)
+            os.link(file.name, self._path)
         folder = os.open(os.path.dirname(self._path) or ".", os.O_RDONLY)
         os.fsync(folder)
         os.close(folder)

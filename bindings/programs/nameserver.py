@@ -11,9 +11,10 @@ journal before it is carried out, and answered after that; at the start those of
 journal belongs to the zone file that it began with, and only grows: to begin anew, take it away when you put another file
 there, as the zone that a transfer brought.
 
-The SOA's serial is raised by each update that is answered NoError and has something to change, whether it changed anything
-or not. Then the secondaries that are named are told, by NOTIFY (RFC 1996). IXFR gets the whole zone, or its SOA where there
-is nothing newer (RFC 1995, 2 and 4). All messages of a transfer are made at once: of one zone, while others wait.
+The SOA's serial is raised by each update that is answered NoError and names any change, whether the zone has it already or
+not. Then, and at the start, the secondaries that are named are told by NOTIFY (RFC 1996). IXFR gets the whole zone, or its
+SOA where there is nothing newer (RFC 1995, 2 and 4). All messages of a transfer are made at once: of one zone, while others
+wait.
 
 nameserver.py ZONE_FILE ORIGIN ADDRESS PORT JOURNAL
     [--update-from ADDRESS].. [--transfer-to ADDRESS].. [--notify ADDRESS[#PORT]]..
@@ -82,6 +83,11 @@ def with_type(message: bytes, query_type: int) -> bytes:
     return message[:end - 4] + struct.pack("!H", query_type) + message[end - 2:]
 
 
+def has_changes(update: bytes) -> bool:
+    """Whether the header of an update counts any change, and not prerequisites alone (RFC 2136, 2.2)."""
+    return update[8:10] != b"\0\0"
+
+
 def serial_of(soa: fuzsbanel.Record) -> int:
     """The serial of an SOA, whose data ends in five numbers (RFC 1035, 3.3.13)."""
     return struct.unpack("!I", soa.data[-20:-16])[0]
@@ -126,22 +132,22 @@ class HeldZone:
         raise ValueError("the zone has no SOA")
 
     def _replay(self, update: bytes, is_last: bool) -> None:
-        """Carries out an update of the journal. One with another code than NoError may be the last alone: the server ended
-        before it cut that off."""
+        """Carries out an update of the journal. One that isn't kept may be the last alone: the server ended before it cut that
+        off."""
         try:
             code = self.zone.update(update)
         except fuzsbanel.Refusal as why:
             raise Stop(f"an update of the journal is refused: {why}") from why
-        if code == NO_ERROR:
-            self._keep(update)
+        if code == NO_ERROR and has_changes(update):
+            self._keep()
         elif is_last:
             self._journal.cut()
         else:
-            raise Stop(f"an update of the journal has the code {code}: it isn't this zone's")
+            raise Stop(f"an update of the journal has the code {code}: it isn't of this zone")
 
     def update(self, update: bytes) -> int:
-        """The code of an update. With NoError the update stands in the journal, and is carried out; with another, or where
-        there is no room for it or no memory, neither."""
+        """The code of an update. With NoError it is carried out, and stands in the journal if it has any change; with another,
+        or where it finds no room or no memory, neither. So a replay comes to the same zone."""
         try:
             self._journal.append(update)
             code = self.zone.update(update)
@@ -149,21 +155,19 @@ class HeldZone:
             self._journal.cut()
             warn(f"an update is not carried out: {why}")
             return SERV_FAIL
-        if code == NO_ERROR:
-            self._keep(update)
+        if code == NO_ERROR and has_changes(update):
+            self._keep()
         else:
             self._journal.cut()
         return code
 
-    def _keep(self, update: bytes) -> None:
-        """Keeps the entry of an update that was carried out, and raises the serial if its header counts any change: whether
-        that changed the zone the library doesn't say."""
+    def _keep(self) -> None:
+        """Keeps the entry of an update that was carried out, and raises the serial."""
         self._journal.keep()
-        if struct.unpack("!H", update[8:10])[0]:
-            try:
-                self.serial = self.zone.raise_serial()
-            except fuzsbanel.Refusal as why:
-                raise Stop(f"the serial isn't raised: {why}") from why
+        try:
+            self.serial = self.zone.raise_serial()
+        except fuzsbanel.Refusal as why:
+            raise Stop(f"the serial isn't raised: {why}") from why
 
     def close(self) -> None:
         self._journal.close()

@@ -23,15 +23,12 @@ update.py [--timeout SECONDS]
 import argparse
 import os
 import secrets
-import socket
-import struct
 import sys
-import time
 from typing import List, NamedTuple, Tuple
 
 sys.path.insert(0, os.path.join(os.path.dirname(os.path.realpath(__file__)), "../python"))
 import fuzsbanel  # noqa: E402
-from lookup import type_of  # noqa: E402
+from lookup import Failure, exchanged_by_stream, type_of  # noqa: E402
 
 UPDATE = 5
 CODES = ["NoError", "FormErr", "ServFail", "NXDomain", "NotImp", "Refused", "YXDomain", "YXRRSet", "NXRRSet", "NotAuth",
@@ -137,7 +134,7 @@ class Session:
         if not self._server[0] or not self._zone:
             raise Refused("`server` and `zone` come before `send`")
         message = update.message(self._zone)
-        header = fuzsbanel.header(exchanged(message, self._server, self._seconds))
+        header = fuzsbanel.header(exchanged_by_stream(message, self._server, self._seconds))
         if not header.response or (header.id, header.opcode) != (fuzsbanel.header(message).id, UPDATE):
             raise Refused("what came is no answer")
         return header.rcode
@@ -150,20 +147,6 @@ def set_of(line: str) -> Line:
     return Line(absolute(owner), type_word, data=data.strip())
 
 
-def exchanged(message: bytes, server: Tuple[str, int], seconds: float) -> bytes:
-    """What a server answers to a message by TCP, within so many seconds in all."""
-    end = time.monotonic() + seconds
-    with socket.create_connection(server, seconds) as sock:
-        sock.sendall(struct.pack("!H", len(message)) + message)
-        received = b""
-        while len(received) < 2 or len(received) < 2 + struct.unpack("!H", received[:2])[0]:
-            sock.settimeout(max(end - time.monotonic(), 0.001))
-            if not (piece := sock.recv(1 << 16)):
-                raise Refused("the server ends the connection without an answer")
-            received += piece
-    return received[2:2 + struct.unpack("!H", received[:2])[0]]
-
-
 def main() -> None:
     words = argparse.ArgumentParser(description=__doc__, formatter_class=argparse.RawDescriptionHelpFormatter)
     words.add_argument("--timeout", type=float, default=5.0, metavar="SECONDS")
@@ -171,7 +154,7 @@ def main() -> None:
     for number, line in enumerate(sys.stdin, 1):
         try:
             code = session.take(line)
-        except (Refused, OSError, OverflowError, fuzsbanel.Refusal) as why:
+        except (Refused, Failure, OSError, OverflowError, fuzsbanel.Refusal) as why:
             sys.exit(f"update: line {number}: {why}")
         if code:
             print(f"update: line {number}: {CODES[code] if code < len(CODES) else code}", file=sys.stderr)

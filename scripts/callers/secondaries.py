@@ -1,4 +1,5 @@
 """What secondaries get of `nameserver.py`: transfers, NOTIFY, and a BIND that follows each change."""
+import os
 import socket
 import struct
 import subprocess
@@ -86,8 +87,10 @@ def try_serials():
             for update, code in ((added("a"), 0), (nothing, 8), (added("a"), 0), (added("b"), 0)):
                 want(server.code(update) == code, "an update")
                 seen.append(server.serial())
+            size = os.path.getsize(server.journal)
             status, said = server.nsupdate("prereq yxdomain a.example.")
             want(status == 0 and server.serial() == seen[-1], f"prerequisites alone: {said}")
+            want(os.path.getsize(server.journal) == size, "prerequisites alone stand in the journal")
             want(seen == [2 ** 32 - 1, 2 ** 32 - 1, 0, 1], f"serials {seen}")
         with Served(folder, *ALLOWED, text=ZONE.replace(" 1 7200", f" {2 ** 32 - 2} 7200")) as server:
             want(server.serial() == seen[-1], "a serial after a start")

@@ -233,4 +233,11 @@ def try_faults():
                 want(server.code(added("h")) is None and server.ended() == -9, "the server isn't killed")
         with Served(folder, *ALLOWED) as server:
             want(server.has("h.example") == 1, "what was written before the server was killed")
+            size = os.path.getsize(server.journal)
+            with Traced(server, "ftruncate", "ftruncate:signal=SIGKILL"):
+                refused = fuzsbanel.create(9, ORIGIN, "h 300 A 192.0.2.7")
+                want(server.code(refused) is None and server.ended() == -9, "the server isn't killed")
+            want(os.path.getsize(server.journal) > size, "a refused update that the server didn't come to cut off")
+        with Served(folder, *ALLOWED) as server:
+            want(os.path.getsize(server.journal) == size, "a refused update is cut off at the start")
     print("nameserver: faults of the journal's disk")
