@@ -43,7 +43,7 @@ ANSWER, AUTHORITY = 1, 2
 NO_ERROR, FORM_ERR, SERV_FAIL, NOT_IMP, REFUSED, NOT_AUTH = 0, 1, 2, 4, 5, 9
 # how many bytes of a datagram pass any network (RFC 9715, 3), the most of a message, and its header
 PAYLOAD, MOST, HEADER = 1232, 65535, 12
-# how many questions and records a message may have that is no update: the question, the SOA of IXFR, OPT and a signature
+# how many questions and records a message may have that is no update of one who may: the question, the SOA of IXFR, OPT and a signature
 FEW = 8
 # how many connections there are in all and of one address, and how many seconds a message and a silence may take
 CONNECTIONS, OF_ONE_ADDRESS, SECONDS = 128, 16, 10
@@ -367,18 +367,17 @@ class Server:
         if len(message) < HEADER or (header := fuzsbanel.header(message)).response:
             return []
         is_small = header.queries + header.answers + header.authorities + header.additionals <= FEW
-        if header.opcode == UPDATE and not (by_stream and peer in self._update_from):
-            return [self._code_alone(message if is_small else bare(message), REFUSED)]
-        if header.opcode != UPDATE and not is_small:
-            return [self._code_alone(bare(message), FORM_ERR)]
+        is_update, is_named = header.opcode == UPDATE, by_stream and peer in self._update_from
+        if not is_small and not (is_update and is_named):
+            return [self._code_alone(bare(message), REFUSED if is_update else FORM_ERR)]
         try:
             items = list(fuzsbanel.walk(message))
         except fuzsbanel.Refusal:
             return [zone.answer(message, most)]
         if any(isinstance(it, fuzsbanel.Record) and it.record_type in (SIG, TSIG) for it in items):
             return [self._code_alone(message, NOT_AUTH)]
-        if header.opcode == UPDATE:
-            return [self._updated(message)]
+        if is_update:
+            return [self._updated(message) if is_named else self._code_alone(message, REFUSED)]
         query_type = items[0].query_type if header.opcode == QUERY and header.queries == 1 else 0
         if query_type in (IXFR, AXFR):
             is_allowed = peer in self._transfer_to

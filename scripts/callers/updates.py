@@ -39,6 +39,7 @@ def try_updates():
         [answer] = server.by_stream(added("c"), source="127.0.0.2")
         want(fuzsbanel.header(answer).rcode == REFUSED, "an update from elsewhere")
         want(server.code(unsigned(added("c"))) == NOT_AUTH, "an update with TSIG")
+        want(fuzsbanel.header(server.by_datagram(unsigned(added("c")))).rcode == NOT_AUTH, "an update by UDP with TSIG")
         size = os.path.getsize(server.journal)
         want(server.by_stream(response(added("c")), query("www.example"))[0] is None, "a response that is an update")
         want(server.code(added("c") + b"!") == 1, "an update with a byte after it")
