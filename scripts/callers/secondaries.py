@@ -108,10 +108,11 @@ def try_notify():
             header, [asked] = fuzsbanel.header(first), fuzsbanel.queries(first)
             want(first == again and header.opcode == NOTIFY and header.authoritative and not header.response, "a NOTIFY")
             want((fuzsbanel.name(first, asked.name), asked.query_type) == (ORIGIN, SOA), "what is told of")
-            for wrong in (first, bytes(12), b"", bytes([first[0] ^ 1]) + first[1:2] + bytes([first[2] | 0x80]) + first[3:]):
+            heard_it = first[:2] + bytes([first[2] | 0x80]) + first[3:]
+            for wrong in (first, bytes(12), b"", bytes([first[0] ^ 1]) + heard_it[1:], first[:2] + b"\x80" + first[3:]):
                 secondary.sendto(wrong, source)
             want(secondary.recv(4096) == first and time.monotonic() - began > 3, "the second wait is twice the first")
-            secondary.sendto(first[:2] + bytes([first[2] | 0x80]) + first[3:], source)
+            secondary.sendto(heard_it, source)
             secondary.settimeout(9)
             want(heard(secondary) is None, "who heard is told again")
             for at in range(3):
