@@ -86,8 +86,8 @@ def by_datagram(query: bytes, server: Tuple[str, int], seconds: float) -> bytes:
     raise TimeoutError
 
 
-def by_stream(query: bytes, server: Tuple[str, int], seconds: float) -> bytes:
-    """The answer by TCP, within so many seconds in all (RFC 1035, 4.2.2)."""
+def exchanged_by_stream(query: bytes, server: Tuple[str, int], seconds: float) -> bytes:
+    """What a server sends for a message by TCP, within so many seconds in all (RFC 1035, 4.2.2)."""
     end = time.monotonic() + seconds
     with socket.create_connection(server, seconds) as sock:
         sock.sendall(struct.pack("!H", len(query)) + query)
@@ -99,7 +99,12 @@ def by_stream(query: bytes, server: Tuple[str, int], seconds: float) -> bytes:
             if not (piece := sock.recv(MOST)):
                 raise Failure("the stream ends inside a message")
             received += piece
-    message = received[2:2 + struct.unpack("!H", received[:2])[0]]
+    return received[2:2 + struct.unpack("!H", received[:2])[0]]
+
+
+def by_stream(query: bytes, server: Tuple[str, int], seconds: float) -> bytes:
+    """The answer by TCP, within so many seconds in all."""
+    message = exchanged_by_stream(query, server, seconds)
     if not is_answer(query, message):
         raise Failure("what came by TCP is no answer")
     return message
