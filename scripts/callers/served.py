@@ -12,7 +12,9 @@ from common import ROOT
 sys.path[:0] = [f"{ROOT}/bindings/python", f"{ROOT}/bindings/programs"]
 import fuzsbanel  # noqa: E402
 
-NAMESERVER = f"{ROOT}/bindings/programs/nameserver.py"
+PYTHON = [sys.executable, f"{ROOT}/bindings/programs/nameserver.py"]
+# the server that is tried, where no other is named
+TRIED = list(PYTHON)
 HOST, ORIGIN = "127.0.0.1", "example."
 A, SOA, MX, TXT, OPT, TSIG, IXFR, AXFR, ANY = 1, 6, 15, 16, 41, 250, 251, 252, 255
 NO_ERROR, FORM_ERR, SERV_FAIL, NX_DOMAIN, NOT_IMP, REFUSED, YX_RRSET, NOT_AUTH = 0, 1, 2, 3, 4, 5, 7, 9
@@ -57,11 +59,11 @@ def free_port():
 class Served:
     """A server of a zone in a folder, ended at the end of its block: cleanly, unless it has ended or was killed before."""
 
-    def __init__(self, folder, *words, before=(), text=ZONE):
+    def __init__(self, folder, *words, before=(), text=ZONE, program=None):
         self.zone, self.journal, self.said = f"{folder}/zone", f"{folder}/journal", f"{folder}/said"
         with open(self.zone, "w", encoding="utf-8") as file:
             file.write(text)
-        command = [*DYING, *before, sys.executable, NAMESERVER, self.zone, ORIGIN, HOST, str(free_port()), self.journal]
+        command = [*DYING, *before, *(program or TRIED), self.zone, ORIGIN, HOST, str(free_port()), self.journal]
         with open(self.said, "w", encoding="utf-8") as said:
             self.process = subprocess.Popen([*command, *words], stdin=subprocess.DEVNULL, stdout=said, stderr=said)
         self.port = self._port()
