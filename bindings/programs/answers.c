@@ -109,15 +109,17 @@ static int64_t code_for_header(struct asked *it, int code)
     return code_alone(it, code);
 }
 
-/* Carries out an update. The response is made first, so that nothing can fail afterwards. */
-static int64_t updated(const struct asked *it)
+/* Carries out an update. The response is made and has its memory first, so that nothing can fail afterwards. */
+static int64_t updated(const struct asked *it, struct frames *frames)
 {
     int64_t len = code_alone(it, SERV_FAIL);
     if (len < HEADER || code_of(made) != SERV_FAIL)
         return len;
-    bool is_whole = fuzsbanel_check(it->message, it->len) == (int64_t)it->len;
-    set_code(made, is_whole ? held_update(it->held, it->message, it->len) : FORM_ERR);
-    return len;
+    int64_t end = fuzsbanel_check(it->message, it->len);
+    if (end < 0 || !add_frame(frames, made, (size_t)len))
+        return -1;
+    set_code(frames->at + 2, (size_t)end == it->len ? held_update(it->held, it->message, it->len) : FORM_ERR);
+    return 0;
 }
 
 /* What a datagram has for ANY: the first set of the whole answer (RFC 8482, 4.1). */
@@ -205,13 +207,14 @@ static int64_t made_for(struct asked *it, const struct fuzsbanel_header *header,
     bool is_update = header->opcode == UPDATE;
     if (counted > FEW && !(is_update && it->rights.may_update))
         return code_for_header(it, is_update ? REFUSED : FORM_ERR);
-    if (fuzsbanel_walk(it->message, it->len, items, ITEMS, names, sizeof names, &room) < 0)
-        return answered(it, it->rights.by_stream);
+    int64_t end = fuzsbanel_walk(it->message, it->len, items, ITEMS, names, sizeof names, &room);
+    if (end < 0)
+        return end == -FUZSBANEL_MEMORY ? end : answered(it, it->rights.by_stream);
     it->items = room.items;
     if (is_signed(it))
         return code_alone(it, NOT_AUTH);
     if (is_update)
-        return it->rights.may_update ? updated(it) : code_alone(it, REFUSED);
+        return it->rights.may_update ? updated(it, frames) : code_alone(it, REFUSED);
     uint16_t type = header->opcode == QUERY && header->queries == 1 ? items[0].record.record_type : 0;
     if (type == TYPE_IXFR || type == TYPE_AXFR)
         return it->rights.may_transfer ? transfer(it, type, frames) : code_alone(it, REFUSED);

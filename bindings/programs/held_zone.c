@@ -76,7 +76,8 @@ static bool find_serial(struct held_zone *held)
     static uint8_t answer[MOST];
     struct fuzsbanel_record soa;
     size_t needed;
-    int64_t len = fuzsbanel_zone_answer(&held->zone, held->asking, held->asking_len, MOST, true, answer, sizeof answer, &needed);
+    int64_t len = fuzsbanel_zone_answer(&held->zone, held->asking, held->asking_len, MOST, true, answer, sizeof answer,
+                                        &needed);
     return len >= 0 && first_answer(answer, (size_t)len, &soa) && serial_of(answer, (size_t)len, &soa, &held->serial);
 }
 

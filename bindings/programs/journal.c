@@ -93,11 +93,9 @@ static size_t read_all(const struct journal *journal, uint8_t *bytes, size_t len
     return done;
 }
 
-/* Syncs the folder that a file stands in, and so the file's name. */
-static bool sync_folder(const char *path)
+/* Syncs the folder that a file stands in, and so the files' names. */
+static bool sync_folder(char *name)
 {
-    char name[PATH_MAX];
-    strcpy(name, path); /* `begin` asked for its length */
     int folder = open(dirname(name), O_RDONLY | O_CLOEXEC);
     if (folder < 0)
         return false;
@@ -121,7 +119,7 @@ static void begin(const char *path, const uint8_t head[HEAD])
         warn("%s: %s", name, strerror(errno));
     if (!is_there)
         stop("%s: %s", path, strerror(why));
-    if (!sync_folder(path))
+    if (!sync_folder(name))
         stop("%s: its folder isn't synced: %s", path, strerror(errno));
 }
 

@@ -91,7 +91,7 @@ static void open_sockets(struct server *it)
         stop("port %d: %s", it->port, strerror(errno));
     it->port = port_of(&place);
     it->tcp = bound_socket(&place, len, SOCK_STREAM);
-    if (it->tcp < 0 || listen(it->tcp, SOMAXCONN) != 0)
+    if (it->tcp < 0 || listen(it->tcp, CONNECTIONS) != 0)
         stop("port %d: %s", it->port, strerror(errno));
     for (size_t i = 0; i < it->secondary_count; i++) {
         if (!secondary_open(&it->secondaries[i], &it->address))
@@ -231,7 +231,8 @@ static void run(struct server *it)
     }
 }
 
-static void wrong_words(const char *words)
+/* Says which words there are, and which are wrong, if any are. */
+static _Noreturn void wrong_words(const char *words)
 {
     FILE *out = words ? stderr : stdout;
     int wrote = fputs("usage: nameserver ZONE_FILE ORIGIN ADDRESS PORT JOURNAL\n"
