@@ -44,8 +44,8 @@ static uint8_t *text_of(const char *path, size_t *len)
     size_t got = 1, room = 0;
     for (*len = 0; file && got > 0; *len += got) {
         if (room - *len < 2) {
-            room = room ? room : 1 << 15;
-            uint8_t *larger = room > SIZE_MAX / 2 ? NULL : realloc(text, room *= 2);
+            room = room < SIZE_MAX / 4 ? 2 * room + 65536 : 0;
+            uint8_t *larger = room ? realloc(text, room) : NULL;
             if (!larger)
                 stop("%s: no memory", path);
             text = larger;

@@ -57,9 +57,8 @@ static void be_ending(int number)
 {
     (void)number;
     int why = errno;
-    if (write(ending[1], "", 1) < 0) {
-        /* it is full, and so the server ends */
-    }
+    if (write(ending[1], "", 1) < 0)
+        (void)0; /* it is full, and so the server ends */
     errno = why;
 }
 
@@ -125,9 +124,9 @@ static void take_datagrams(struct server *it)
         /* no update: anybody may forge where a datagram comes from */
         struct address peer = address_of(&source);
         struct rights rights = {false, false, is_among(&it->transfer_to, &peer)};
-        if (respond(&it->held, message, (size_t)len, rights, &it->datagram) &&
-            sendto(it->udp, it->datagram.at + 2, it->datagram.len - 2, 0, &source.any, source_len) < 0)
-            continue; /* as if the network had lost it */
+        if (respond(&it->held, message, (size_t)len, rights, &it->datagram))
+            /* where it can't be sent it is as one that the network loses */
+            (void)sendto(it->udp, it->datagram.at + 2, it->datagram.len - 2, 0, &source.any, source_len);
     }
 }
 

@@ -42,8 +42,7 @@ void secondary_send(struct secondary *it, const struct held_zone *held)
     it->told = now();
     it->due = it->tries < TRIES - 1 ? it->told + ((int64_t)AGAIN << it->tries) : NEVER;
     it->tries++;
-    if (send(it->file, message, held->asking_len, 0) < 0)
-        return; /* it is told again */
+    (void)send(it->file, message, held->asking_len, 0); /* what is lost is told again, as of what the network loses */
 }
 
 void secondary_hear(struct secondary *it)

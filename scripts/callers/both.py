@@ -63,8 +63,11 @@ def try_exchanged():
             zone = None
             for at in range(ROUNDS * UPDATES):
                 if at % UPDATES == 0:
-                    with Served(folder, *ALLOWED, program=programs[at // UPDATES % 2]) as server:
+                    one, other = programs if at // UPDATES % 2 == 0 else reversed(programs)
+                    with Served(folder, *ALLOWED, program=one) as server:
                         want(zone in (None, whole(server)), "a start with the journal of the other")
+                        with Served(folder, *ALLOWED, program=other) as second:
+                            want(second.port is None and second.ended() == 1, "two servers of one journal")
                         for name in range(at, at + UPDATES):
                             want(server.code(added(f"n{name}", name)) == 0, "an update")
                         zone = whole(server)

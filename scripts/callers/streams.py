@@ -149,14 +149,16 @@ def try_slow():
             sock.close()
         want(server.by_datagram(good) is not None, "an answer after slow clients")
         many = [server.connected("127.0.0.9") for _ in range(OF_ONE_ADDRESS + 1)]
-        want(taken(many[-1]) is None, "one address has more connections than it may")
+        want(is_ended(many[-1], SOON), "one address has more connections than it may")
+        want(not is_ended(many[-2]), "one address has fewer connections than it may")
         want(server.has("www.example") == 2, "an answer beside an address with many connections")
         for sock in many:
             sock.close()
         time.sleep(0.5)
         all_of_them = [server.connected(f"127.0.0.{10 + at // OF_ONE_ADDRESS}") for at in range(IN_ALL)]
         with server.connected() as sock:
-            want(taken(sock) is None, "there are more connections than there may be")
+            want(is_ended(sock, SOON), "there are more connections than there may be")
+            want(not is_ended(all_of_them[-1]), "there are fewer connections than there may be")
         for sock in all_of_them:
             sock.close()
         time.sleep(0.5)
@@ -164,9 +166,9 @@ def try_slow():
     print(f"nameserver: {len(slow)} slow clients delay no other, and are ended")
 
 
-def is_ended(sock):
-    """Whether a connection has ended by now."""
-    sock.settimeout(0.2)
+def is_ended(sock, seconds=0.2):
+    """Whether a connection ends by then."""
+    sock.settimeout(seconds)
     try:
         while sock.recv(1 << 20):
             pass
