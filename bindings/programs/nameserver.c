@@ -17,6 +17,7 @@
 #include <stdio.h>
 #include <stdlib.h>
 #include <string.h>
+#include <sys/resource.h>
 #include <unistd.h>
 
 /* how many connections there are in all and of one address */
@@ -25,6 +26,8 @@ enum { CONNECTIONS = 128, OF_ONE_ADDRESS = 16 };
 enum { DATAGRAMS = 16 };
 /* how many bytes the system may hold for a client that doesn't read */
 enum { ROOM = 1 << 17 };
+/* how many files are open beside those that are polled, and a few more */
+enum { OTHER_FILES = 16 };
 /* the first places that are polled; after them come secondaries, and connections */
 enum { ENDING, UDP, TCP, FIRST };
 
@@ -78,6 +81,14 @@ static void *array_of(size_t count, size_t size)
     if (!array)
         stop("no memory");
     return array;
+}
+
+/* Asks for as many open files as there may be: a connection that can't be taken would be tried again without end. */
+static void need_files(size_t count)
+{
+    struct rlimit files;
+    if (getrlimit(RLIMIT_NOFILE, &files) != 0 || files.rlim_cur < count)
+        stop("it may not have %zu open files", count);
 }
 
 /* Opens the sockets, of one port for datagrams and connections, and those to the secondaries. */
@@ -328,6 +339,7 @@ int main(int count, char **words)
     char address[INET6_ADDRSTRLEN];
     read_words(&server, count, words);
     hear_signals();
+    need_files(FIRST + server.secondary_count + CONNECTIONS + OTHER_FILES);
     held_open(&server.held, server.zone_file, server.origin, server.journal);
     open_sockets(&server);
     if (!inet_ntop(server.address.family, server.address.bytes, address, sizeof address))

@@ -76,6 +76,11 @@ def try_exchanged():
     print(f"nameserver: a journal of {len(journals[0])} bytes goes on in the other, and back")
 
 
+def try_few_files():
+    with tempfile.TemporaryDirectory() as folder, Served(folder, before=("prlimit", "--nofile=100")) as server:
+        want(server.port is None and server.ended() == 1 and "open files" in server.words(), "a server with few files")
+
+
 def try_growths():
     """Each growth of the server is refused in turn: it ends with a sentence, ends the connection or answers ServFail, and
     what it answered, and no other, is there then and after a start."""
