@@ -53,10 +53,10 @@ class Zone:
         return wildcard if self.exists(wildcard) else None
 
     def records(self, owner, name, kind):
-        """The records of a set as they are answered: of this owner, of the least TTL, those that have data."""
-        there = self.sets.get((key(name), kind), [])
+        """The records of a set as they are answered: of this owner, those that have data, of the least TTL of these."""
+        there = [it for it in self.sets.get((key(name), kind), []) if not it.data.empty]
         ttl = min((it.ttl for it in there), default=0)
-        return [Record(owner, self.dns_class, False, ttl, it.data) for it in there if not it.data.empty]
+        return [Record(owner, self.dns_class, False, ttl, it.data) for it in there]
 
     def lookup(self, kind, name):
         """What there is: `outside`, `no name`, a `cut` and its name, an `alias` as a record, or the `data`."""
