@@ -4,6 +4,7 @@ mod asked;
 mod generic;
 mod held;
 mod long_names;
+mod long_zones;
 mod transferred;
 mod updates;
 mod zone_check;
