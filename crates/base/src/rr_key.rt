@@ -1,11 +1,13 @@
 //! The key under which the records of one name and one type stand together.
 
-ghost use Rattle.std.specs.Prelude.{◌≡◌, IsTrue};
+ghost use Rattle.std.specs.Prelude.{◌≡◌, IfOk, IsTrue};
 ghost use Rattle.std.specs.Cmp.{IsTotalOrder};
-ghost use Rattle.base.specs.RrKey.{key_cmp};
+ghost use Rattle.base.specs.RrKey.{key_cmp, key_of};
 
 use crate::lower_name::LowerName;
+use crate::name::Name;
 use crate::record_type::RecordType;
+use std::alloc::AllocError;
 use std::cmp::Ordering;
 
 /// A name in lower case and a record type: the key of a set of records (RFC 2181, 5).
@@ -26,6 +28,18 @@ impl RrKey {
         ensures record_type { result.record_type ≡ record_type }
     {
         RrKey { name, record_type }
+    }
+
+    /// The key of the records of an owner, in whatever letter case, and of a type.
+    ///
+    /// # Errors
+    ///
+    /// If memory runs out.
+    pub fn of(owner: &Name, record_type: RecordType) -> Result<RrKey, AllocError>
+        ensures { IfOk result (λ key. key ≡ key_of owner.now record_type) }
+    {
+        let name = LowerName::new(owner.allocator(), owner).map_err(|_| AllocError)?;
+        Ok(RrKey { name, record_type })
     }
 }
 

@@ -173,48 +173,21 @@ pub kept_last : (es fs : ZoneSets) (e : RrKey × SetValue) → AreKeyed (es ++ (
 kept_last es fs e kept = (kept_back (es ++ fs) (e ∷ []) (subst AreKeyed (whole_of es fs e) kept)).0
 
 -- ---- a run that goes into a map
--- a set goes between those below it and those above it
-pub put_between : (es fs : ZoneSets) (key : RrKey) (set : SetValue) → AreInOrder (es ++ (key, set) ∷ fs)
-    → insert_entry key_cmp (es ++ fs) key set ≡ es ++ (key, set) ∷ fs
+-- a set goes before those above it
+put_first : (fs : ZoneSets) (key : RrKey) (set : SetValue) → AreInOrder ((key, set) ∷ fs)
+    → insert_entry key_cmp fs key set ≡ (key, set) ∷ fs
 unfolding IsStrictlySortedBy
-put_between [] [] key set order = refl
-put_between [] (f ∷ fs) key set order = rw order.0.0 refl
-put_between (e ∷ es) fs key set order =
-    let above : key_cmp key e.0 ≡ Greater = flipped e.0 key
-    (back_keys (λ k. key_cmp e.0 k ≡ Less) es ((key, set) ∷ fs) order.0).0 in
-    rw above (ap (λ (zs : ZoneSets). e ∷ zs) (put_between es fs key set order.1))
+put_first [] key set order = refl
+put_first (f ∷ fs) key set order = rw order.0.0 refl
 
--- the keys that are left where some are taken out
-keys_without : (P : RrKey → Type 0) (es ms fs : ZoneSets) → AllByRecursion P (keys_of (es ++ (ms ++ fs)))
-    → AllByRecursion P (keys_of (es ++ fs))
-keys_without P [] ms fs h = back_keys P ms fs h
-keys_without P (e ∷ es) ms fs h = (h.0, keys_without P es ms fs h.1)
-
-order_without : (es ms fs : ZoneSets) → AreInOrder (es ++ (ms ++ fs)) → AreInOrder (es ++ fs)
-unfolding IsStrictlySortedBy
-order_without [] ms fs h = order_back ms fs h
-order_without (e ∷ es) ms fs h = (keys_without (λ k. key_cmp e.0 k ≡ Less) es ms fs h.0, order_without es ms fs h.1)
-
--- Of a run that stood after these sets, those left are still before those that were put into the map.
-pub record AreBetween (sets run whole left : ZoneSets) : Type 0 where
-  pub put : ZoneSets
-  pub all : left ++ put ≡ run
-  pub have : whole ≡ sets ++ put
-
-pub one_more_put : {sets run whole left : ZoneSets} (e : RrKey × SetValue) (rest more : ZoneSets)
-    → AreInOrder (sets ++ run) → AreBetween sets run whole left
-    → left ≡ rest ++ e ∷ [] → more ≡ insert_entry key_cmp whole e.0 e.1 → AreBetween sets run more rest
-one_more_put {sets} {run} {whole} {left} e rest more order is last put =
-    let all : rest ++ e ∷ is.put ≡ run = sym (append_assoc rest (e ∷ []) is.put)
-    ∙ ap (λ (zs : ZoneSets). zs ++ is.put) (sym last) ∙ is.all in
-    let above : AreInOrder (sets ++ e ∷ is.put) =
-    order_without sets rest (e ∷ is.put) (subst (λ (zs : ZoneSets). AreInOrder (sets ++ zs)) (sym all) order) in
-    record {
-      put = e ∷ is.put;
-      all = all;
-      have = put ∙ ap (λ (zs : ZoneSets). insert_entry key_cmp zs e.0 e.1) is.have
-          ∙ put_between sets is.put e.0 e.1 above;
-    }
+-- where the last of those that are left goes into the map of those after it, the run stays whole
+pub one_more_put : {run whole left : ZoneSets} (e : RrKey × SetValue) (rest more : ZoneSets) → AreInOrder run
+    → left ++ whole ≡ run → left ≡ rest ++ e ∷ [] → more ≡ insert_entry key_cmp whole e.0 e.1 → rest ++ more ≡ run
+one_more_put {run} {whole} {left} e rest more order is last put =
+    let all : rest ++ e ∷ whole ≡ run = sym (append_assoc rest (e ∷ []) whole)
+    ∙ ap (λ (zs : ZoneSets). zs ++ whole) (sym last) ∙ is in
+    let above : AreInOrder (e ∷ whole) = order_back rest (e ∷ whole) (subst AreInOrder (sym all) order) in
+    ap (λ (zs : ZoneSets). rest ++ zs) (put ∙ put_first whole e.0 e.1 above) ∙ all
 
 -- a set under a key that is there takes the place of the one there
 pub put_there : (es : ZoneSets) (key : RrKey) (old new : SetValue) → AreInOrder es → set_at es key ≡ Some old

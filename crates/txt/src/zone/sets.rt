@@ -14,7 +14,7 @@ ghost use Rattle.txt.specs.ZoneSets.{AreKeyed, sets_with, soa_again};
 ghost use Rattle.rr.specs.Record.{record_key};
 
 use crate::zone::run::Run;
-use base::{LowerName, ParseError, RecordType, RrKey};
+use base::{ParseError, RecordType, RrKey};
 use base_data::RecordData;
 use rr::{Record, RecordSet};
 use std::alloc::{AllocError, Global};
@@ -90,8 +90,8 @@ impl ZoneSets {
         // Each set stands under the key of its owner and type, has a record and is tidy.
         ensures kept { IfOk result (λ sets. AreKeyed sets.entries) }
     {
-        let none = BTreeMap::new(*self.entries.allocator());
-        append_run(none, self.into_run()?)
+        let alloc = *self.entries.allocator();
+        map_of(alloc, self.into_run()?)
     }
 
     /// The sets in the order of their keys.
@@ -132,7 +132,7 @@ fn make_room(
         (sets_with (gathered entries.old.items) entry.now) }
 {
     entries.reserve(1)?;
-    let key = key_for(*entries.allocator(), entry)?;
+    let key = RrKey::of(&entry.name, entry.record_type())?;
     if entry.record_type() == RecordType::SOA {
         note(soas, &key)?;
     }
@@ -232,33 +232,21 @@ fn take_last(run: &mut Run, key: &RrKey) -> Option<RecordSet>
     Some(set)
 }
 
-/// The key of a record's owner and type.
-fn key_for(alloc: Global, entry: &Record) -> Result<RrKey, ParseError>
-    ensures value { IfOk result (λ key. key ≡ record_key entry.now) }
-    ensures only { IsOkUnless result ParseError.Memory }
-{
-    let owner = LowerName::new(alloc, &entry.name).map_err(|_| ParseError::Memory)?;
-    Ok(RrKey::new(owner, entry.record_type()))
-}
-
-/// The map with the sets of a run, whose keys are above all of the map.
+/// The map of the sets of a run.
 ///
 /// The last one goes in first: so each is below those before it, and a map looks for its place from the lowest key on.
 ///
 /// # Errors
 ///
 /// If memory runs out.
-fn append_run(
-    sets: BTreeMap<RrKey, RecordSet>,
-    run: Run,
-) -> Result<BTreeMap<RrKey, RecordSet>, AllocError>
-    requires { IsStrictlySortedBy key_cmp (keys_of (sets.entries ++ run)) }
-    ensures { IfOk result (λ whole. whole.entries ≡ sets.entries ++ run) }
+fn map_of(alloc: Global, run: Run) -> Result<BTreeMap<RrKey, RecordSet>, AllocError>
+    requires { IsStrictlySortedBy key_cmp (keys_of run) }
+    ensures { IfOk result (λ sets. sets.entries ≡ run) }
 {
-    let mut whole = sets;
+    let mut sets = BTreeMap::new(alloc);
     let mut left = run;
     'sets: while let Some((key, set)) = left.pop() {
-        whole.insert(key, set)?;
+        sets.insert(key, set)?;
     }
-    Ok(whole)
+    Ok(sets)
 }

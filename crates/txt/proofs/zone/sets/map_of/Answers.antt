@@ -1,6 +1,6 @@
 use Rattle.std.proofs.Common.{List, ◌≡◌, ◌<◌, ◌++◌, ◌∷◌, [], ap, arith, length, length-append}
 use Rattle.txt.proofs.SetsInOrder.{one_more_put}
-use Rattle.txt.proofs.zone.sets.append_run.Goals as goal
+use Rattle.txt.proofs.zone.sets.map_of.Goals as goal
 
 fewer : {E : Type 0} (left rest : List E) (e : E) → left ≡ rest ++ e ∷ [] → length rest < length left
 fewer left rest e is = omega (arith, length-append rest (e ∷ []), ap length is)
