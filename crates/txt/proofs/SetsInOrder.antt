@@ -181,9 +181,9 @@ put_first [] key set order = refl
 put_first (f ∷ fs) key set order = rw order.0.0 refl
 
 -- where the last of those that are left goes into the map of those after it, the run stays whole
-pub one_more_put : {run whole left : ZoneSets} (e : RrKey × SetValue) (rest more : ZoneSets) → AreInOrder run
+pub one_more_put : (run whole left : ZoneSets) (e : RrKey × SetValue) (rest more : ZoneSets) → AreInOrder run
     → left ++ whole ≡ run → left ≡ rest ++ e ∷ [] → more ≡ insert_entry key_cmp whole e.0 e.1 → rest ++ more ≡ run
-one_more_put {run} {whole} {left} e rest more order is last put =
+one_more_put run whole left e rest more order is last put =
     let all : rest ++ e ∷ whole ≡ run = sym (append_assoc rest (e ∷ []) whole)
     ∙ ap (λ (zs : ZoneSets). zs ++ whole) (sym last) ∙ is in
     let above : AreInOrder (e ∷ whole) = order_back rest (e ∷ whole) (subst AreInOrder (sym all) order) in
