@@ -49,7 +49,8 @@ pub enum Found<'z> {
 /// sets. CNAME and ANY are answered where an alias stands, and no other type; a DS set is looked for above its cut (RFC
 /// 4035, 3.1.4.1). A name whose flag isn't the origin's lies outside.
 ///
-/// Takes a look-up in the map for each label below the origin, and as many more where nothing stands at the name.
+/// Takes a look-up in the map for each label below the origin, a step for each set of the name, and as many look-ups
+/// more where nothing stands at the name.
 ///
 /// # Errors
 ///
@@ -101,9 +102,9 @@ fn at_wildcard<'z>(
         return Ok(Found::NoName);
     }
     let wildcard = wildcard_over(alloc, sets, origin, name)?;
-    let own = at_name(alloc, sets, &wildcard, record_type)?;
-    if own.exists {
-        return found_at(alloc, sets, &wildcard, record_type, own);
+    let there = at_name(alloc, sets, &wildcard, record_type)?;
+    if there.exists {
+        return found_at(alloc, sets, &wildcard, record_type, there);
     }
     Ok(Found::NoName)
 }

@@ -15,8 +15,8 @@ returns-then-eq-clause-found c = λ class.
     ap (at_source (zone_of_map c.args.origin.now class c.args.sets.now) c.args.record_type n)
     (source_of_origin c.args.origin.now c.args.sets.now class n c.requires.none (sym c.eq.ensures ∙ c.if-eq.true))
 
-pub returns-then-own-clause-found : goal.returns-then-own-clause-found
-returns-then-own-clause-found c =
+pub returns-then-there-clause-found : goal.returns-then-there-clause-found
+returns-then-there-clause-found c =
     let m = c.args.sets.now in
     let n = c.args.name.now in
     let t = c.args.record_type in
@@ -28,8 +28,8 @@ returns-then-own-clause-found c =
     (λ found is class. subst (λ (s : Option NameValue). IsFound class m n found
     (at_source (zone_of_map c.args.origin.now class m) t n s))
     (sym (source_of c.args.origin.now m class n wildcard c.requires.none (sym c.eq.ensures ∙ c.if-eq.false)
-    (c.in_ok-wildcard.ensures.value class) c.in_ok-own.own.exists c.in_ok-own.ensures.value.0
-    ∙ ap (λ b. cond b (Some wildcard) None) c.if-own.true)) (is class c.args.origin.now n)) c.found_at.ensures.found
+    (c.in_ok-wildcard.ensures.value class) c.in_ok-there.there.exists c.in_ok-there.ensures.value.0
+    ∙ ap (λ b. cond b (Some wildcard) None) c.if-there.true)) (is class c.args.origin.now n)) c.found_at.ensures.found
 
 pub returns-clause-found : goal.returns-clause-found
 returns-clause-found c = λ class.
@@ -37,5 +37,5 @@ returns-clause-found c = λ class.
     let wildcard = c.in_ok-wildcard.wildcard in
     ap (at_source (zone_of_map c.args.origin.now class c.args.sets.now) c.args.record_type n)
     (source_of c.args.origin.now c.args.sets.now class n wildcard c.requires.none (sym c.eq.ensures ∙ c.if-eq.false)
-    (c.in_ok-wildcard.ensures.value class) c.in_ok-own.own.exists c.in_ok-own.ensures.value.0
-    ∙ ap (λ b. cond b (Some wildcard) None) c.if-own.false)
+    (c.in_ok-wildcard.ensures.value class) c.in_ok-there.there.exists c.in_ok-there.ensures.value.0
+    ∙ ap (λ b. cond b (Some wildcard) None) c.if-there.false)
