@@ -1,13 +1,14 @@
 -- A walk over a name's own sets.
 use Rattle.authority.proofs.FirstKey.{first_covered, first_from}
+use Rattle.authority.proofs.InsideLemmas.{within_itself}
+use Rattle.authority.proofs.WayLemmas.{or_none}
 use Rattle.authority.specs.Found.{IsAtName}
 use Rattle.authority.specs.Lookup.{exists_among}
 use Rattle.authority.specs.declared.sets.AtName.{AtName}
-use Rattle.base.proofs.names.BelowLemmas.{lies_so}
 use Rattle.base.specs.Keys.{keys_match}
 use Rattle.base.specs.names.Labels.{NameValue}
-use Rattle.base.specs.names.NameOrder.{exact, lower_cmp, lowered}
-use Rattle.base.specs.names.NameOrderLaws.{same_by-is}
+use Rattle.base.specs.names.NameOrder.{lower_cmp, lowered}
+use Rattle.base.specs.names.NameOrderLaws.{same_lower-exact}
 use Rattle.base.specs.names.Parents.{is_at_or_below}
 use Rattle.base.specs.RecordType.{same_type, type_cmp, type_number, type_rank}
 use Rattle.base.specs.RrKey.{key_cmp, key_of}
@@ -17,7 +18,7 @@ use Rattle.base.specs.declared.rr_key.RrKey.{RrKey}
 use Rattle.op_use.proofs.OwnerKeys.{least, next_owned, owned_entry, owned_is, starts}
 use Rattle.op_use.specs.Zone.{is_owned}
 use Rattle.rr.specs.RecordSet.{SetValue}
-use Rattle.std.proofs.Common.{ap, refl, sym, ◌∙◌}
+use Rattle.std.proofs.Common.{ap, refl, subst, sym, ◌∙◌}
 use Rattle.std.proofs.lemmas.Bool.{cond-false}
 use Rattle.std.proofs.lemmas.List.Sums.{take_while-cons}
 use Rattle.std.proofs.lemmas.Map.Entries.{lookup-filter-keys}
@@ -25,23 +26,16 @@ use Rattle.std.specs.BTreeMap as tree
 use Rattle.std.specs.BTreeMap.Range.{entries_between}
 use Rattle.std.specs.BTreeMap.{BTreeMap, is_at}
 use Rattle.std.specs.Bool.{then_some}
-use Rattle.std.specs.Borrow.{Bor}
 use Rattle.std.specs.Cmp.{first_so}
 use Rattle.std.specs.List.Sorted.{IsStrictlySortedBy}
 use Rattle.std.specs.List.{take_while}
-use Rattle.std.specs.Map.{keys_of, lookup}
+use Rattle.std.specs.Map.{lookup}
 use Rattle.std.specs.Option.{option_copied, option_or}
 use Rattle.std.specs.Ordering.{is_eq, ordering_then}
 use Rattle.std.specs.Prelude.{Bool, List, None, Option, Some, [], cond, false, true, ◌&&◌, ◌||◌, ◌∷◌, ◌≡◌}
 use Rattle.std.specs.declared.cmp.Ordering.TheVariants.{Equal, Greater, Less}
 use Rattle.std.specs.declared.cmp.Ordering.{Ordering}
 use Rattle.std.specs.declared.ops.Bound.TheVariants.{Included, Unbounded}
-
-pub copied_or_some : (before : Option (Bor SetValue)) (b : Bool) (s : Bor SetValue)
-    → option_copied (option_or before (then_some b s)) ≡ option_or (option_copied before) (then_some b s.now)
-copied_or_some None true s = refl
-copied_or_some None false s = refl
-copied_or_some (Some x) b s = refl
 
 both_eq : (x y : Ordering) → is_eq (ordering_then x y) ≡ (is_eq x && is_eq y)
 both_eq Less y = refl
@@ -54,10 +48,6 @@ later None true s more = refl
 later None false s more = refl
 later (Some x) b s more = refl
 
-or_none : (o : Option SetValue) → option_or o None ≡ o
-or_none None = refl
-or_none (Some s) = refl
-
 module _ (m : BTreeMap RrKey SetValue) (n : NameValue) where
   -- a key of the name is found by its type
   by_type : (t : RecordType) (k : RrKey) → is_at (key_cmp (key_of n t)) k ≡ (is_owned n k && same_type t k.record_type)
@@ -66,8 +56,7 @@ module _ (m : BTreeMap RrKey SetValue) (n : NameValue) where
 
   covers_own : (k : RrKey) → is_owned n k ≡ true → is_at_or_below n k.name ≡ true
   covers_own k h =
-      let same = (same_by-is exact (lowered n) k.name).0 h in
-      lies_so n k.name (record { flag = same.0; front = []; labels = sym same.1 })
+      subst (λ (x : NameValue). is_at_or_below n x ≡ true) (same_lower-exact (lowered n) k.name h) (within_itself n)
 
   -- the set of a type was found before, or is among those left of the name
   abbrev pub IsSought : RecordType → Option SetValue → List (RrKey × SetValue) → Type 0

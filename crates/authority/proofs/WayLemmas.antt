@@ -118,7 +118,7 @@ one_more z absolute [] h = let s : Starts z.origin absolute [] = starts z.origin
 one_more z absolute (label ∷ labels) h =
     ap (λ b. ends_below z absolute labels ++ cond b (name_with absolute (label ∷ labels) ∷ []) []) h
 
-or_none : (o : Option NameValue) → option_or o None ≡ o
+pub or_none : {X : Type 0} (o : Option X) → option_or o None ≡ o
 or_none None = refl
 or_none (Some x) = refl
 

@@ -4,7 +4,6 @@ use Rattle.authority.proofs.found.alias_at.Goals as goal
 use Rattle.authority.specs.Found.{IsAlias}
 use Rattle.authority.specs.Lookup.{alias_at, alias_in, first_target}
 use Rattle.base.specs.names.Labels.{NameValue}
-use Rattle.op_use.proofs.TypeSteps.{any_is, cname_is}
 use Rattle.op_use.specs.Applying.{zone_of_map}
 use Rattle.rr.specs.RecordSet.{SetValue}
 use Rattle.std.proofs.Common.{Bor, Option, ap, subst, sym, ◌∙◌}
@@ -17,8 +16,7 @@ returns-in_err-set c = record {
       let t = c.args.record_type in
       subst (λ (r : Option (Bor SetValue × Bor NameValue)). IsAlias class n r (alias_at z t n source))
       (sym c.from_residual.ensures)
-      (alias_from z t n source (cname_is t ∙ sym c.eq.ensures ∙ c.if-eq.false)
-      (any_is t ∙ sym c.eq-2.ensures ∙ c.if-eq-2.false)
+      (alias_from z t n source (sym c.eq.ensures ∙ c.if-eq.false) (sym c.eq-2.ensures ∙ c.if-eq-2.false)
       ∙ ap alias_in (no_records origin class sets n _ (sym there ∙ ap option_copied c.in_err-set.was)));
 }
 
@@ -30,8 +28,7 @@ returns-in_err-target c = record {
       let set = c.in_ok-set.set.now in
       subst (λ (r : Option (Bor SetValue × Bor NameValue)). IsAlias class n r (alias_at z t n source))
       (sym c.from_residual-in_err-target.ensures)
-      (alias_from z t n source (cname_is t ∙ sym c.eq.ensures ∙ c.if-eq.false)
-      (any_is t ∙ sym c.eq-2.ensures ∙ c.if-eq-2.false)
+      (alias_from z t n source (sym c.eq.ensures ∙ c.if-eq.false) (sym c.eq-2.ensures ∙ c.if-eq-2.false)
       ∙ ap alias_in (records_there origin class sets n _ set (sym there ∙ ap option_copied c.in_ok-set.was))
       ∙ leads_nowhere class n set.records (ap first_target (sym c.as_slice.ensures) ∙ sym c.target_of.ensures
       ∙ ap option_copied c.in_err-target.was));
@@ -46,8 +43,7 @@ returns c = record {
       let led = leads class n c.in_ok-target.target.now set.records (ap first_target (sym c.as_slice.ensures)
       ∙ sym c.target_of.ensures ∙ ap option_copied c.in_ok-target.was) in (
         led.0,
-        alias_from z t n source (cname_is t ∙ sym c.eq.ensures ∙ c.if-eq.false)
-            (any_is t ∙ sym c.eq-2.ensures ∙ c.if-eq-2.false)
+        alias_from z t n source (sym c.eq.ensures ∙ c.if-eq.false) (sym c.eq-2.ensures ∙ c.if-eq-2.false)
             ∙ ap alias_in (records_there origin class sets n _ set (sym there ∙ ap option_copied c.in_ok-set.was))
             ∙ led.1,
         led.1,
