@@ -107,7 +107,8 @@ module _ (m : BTreeMap RrKey SetValue) (n : NameValue) where
         → option_copied b.asked ≡ option_or (option_copied a.asked) (then_some (same_type t k.record_type) s)
         → IsWalk t a it → IsWalk t b es
     walk_next t a b there servers alias asked h = (
-      ap (λ c. c || first_covered n es) there ∙ sym (or_true a.exists) ∙ ap (λ c. a.exists || c) (sym (covers_own k own))
+      ap (λ c. c || first_covered n es) there ∙ sym (or_true a.exists)
+          ∙ ap (λ c. a.exists || c) (sym (covers_own k own))
           ∙ ap (λ xs. a.exists || first_covered n xs) (sym is) ∙ h.0,
       sought_next types.NS (option_copied a.servers) (option_copied b.servers) servers h.1,
       sought_next types.CNAME (option_copied a.alias) (option_copied b.alias) alias h.2,

@@ -26,7 +26,8 @@ returns-then-not-is_below-clause-value c = λ class.
 pub returns-then-eq-clause-value : goal.returns-then-eq-clause-value
 returns-then-eq-clause-value c = λ class.
     let z = zone_of_map c.args.origin.now class c.args.sets.now in
-    subst (λ (x : Option NameValue). IsCutSet c.args.sets.now x (option_copied c.in_ok-highest.highest)) (sym (cut_beside
+    subst (λ (x : Option NameValue). IsCutSet c.args.sets.now x (option_copied c.in_ok-highest.highest))
+    (sym (cut_beside
     z c.args.record_type c.args.name.now c.in_ok-above.above true
     (ds_is c.args.record_type ∙ sym c.eq.ensures ∙ c.if-eq.true) c.in_ok-above.ensures.value))
     (c.in_ok-highest.ensures.value class)
