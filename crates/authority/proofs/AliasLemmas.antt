@@ -1,7 +1,9 @@
 -- The first alias of a set, and where it leads.
-use Rattle.authority.specs.Lookup.{alias_at, alias_in, alias_or, first_target, least_ttl, record_of, records}
-use Rattle.authority.specs.Lookup.{records_of, shown, target_of}
+use Rattle.authority.specs.Found.{IsAlias}
+use Rattle.authority.specs.Lookup.{Data, alias_at, alias_else, alias_in, alias_or, first_target, least_ttl, record_of}
+use Rattle.authority.specs.Lookup.{records, records_of, shown, target_of}
 use Rattle.base.specs.names.Labels.{NameValue}
+use Rattle.base.specs.RecordType.{same_type}
 use Rattle.base.specs.RrKey.{key_of}
 use Rattle.base.specs.declared.dns_class.DNSClass.{DNSClass}
 use Rattle.base.specs.declared.record_type.RecordType.TheVariants as types
@@ -9,11 +11,13 @@ use Rattle.base.specs.declared.record_type.RecordType.{RecordType}
 use Rattle.base_data.specs.RData.{is_empty_data}
 use Rattle.base_data.specs.declared.rdata.RData.TheVariants as kinds
 use Rattle.base_data.specs.declared.rdata.RData.{RData}
+use Rattle.op_use.proofs.TypeSteps.{any_is, cname_is}
 use Rattle.op_use.specs.NamedChanges.{datum_of}
-use Rattle.op_use.specs.Server.{is_any, is_cname}
 use Rattle.op_use.specs.Zone.{Datum, Zone}
+use Rattle.rr.specs.RecordSet.{SetValue}
 use Rattle.rr.specs.declared.record.Record.{Record}
 use Rattle.std.proofs.Common.{ap, refl, subst, ◌∙◌}
+use Rattle.std.specs.Borrow.{Bor}
 use Rattle.std.specs.Option.{option_or}
 use Rattle.std.specs.Prelude.{Bool, List, None, Option, Some, [], cond, false, map, not, true, ℕ, ◌||◌, ◌∷◌, ◌≡◌}
 
@@ -73,6 +77,13 @@ leads_nowhere class owner rs h =
     (least_ttl (shown (map datum_of rs))) rs)
 
 -- the alias at s is looked for, where neither it nor everything is asked for
-pub alias_from : (z : Zone) (t : RecordType) (n s : NameValue) → is_cname t ≡ false → is_any t ≡ false
-    → alias_at z t n s ≡ alias_in (records z n (key_of s types.CNAME))
-alias_from z t n s c a = λ i. cond (c i || a i) None (alias_in (records z n (key_of s types.CNAME)))
+pub alias_from : (z : Zone) (t : RecordType) (n s : NameValue) → same_type t types.CNAME ≡ false
+    → same_type t types.ANY ≡ false → alias_at z t n s ≡ alias_in (records z n (key_of s types.CNAME))
+alias_from z t n s c a =
+    λ i. cond ((cname_is t ∙ c) i || (any_is t ∙ a) i) None (alias_in (records z n (key_of s types.CNAME)))
+
+-- where no alias was found, the data of the type is what is there
+pub no_alias : (class : DNSClass) (n : NameValue) (found : Option (Bor SetValue × Bor NameValue))
+    (a : Option (Record RData × NameValue)) (rs : List (Record RData)) → found ≡ None → IsAlias class n found a
+    → alias_else a rs ≡ Data rs
+no_alias class n found a rs none is = ap (λ x. alias_else x rs) (subst (λ f. IsAlias class n f a) none is)

@@ -1,5 +1,5 @@
 -- What follows of what is answered.
-use Rattle.authority.specs.Answer.{AnswerValue, answer, answer_found, negative, of_data, owns, with_authority}
+use Rattle.authority.specs.Answer.{AnswerValue, answer, answer_found, of_data, owns, with_authority}
 use Rattle.authority.specs.Chain.IsChain.{ends, leads}
 use Rattle.authority.proofs.StandingLemmas.{alias_owner}
 use Rattle.authority.specs.Chain.{AreLed, AreNew, EndsFor, IsChain, authorities_for, code_for}
@@ -8,7 +8,7 @@ use Rattle.authority.specs.Lookup.{Alias, Cut, Data, Finding, NoName, Outside, l
 use Rattle.base.specs.names.Labels.{NameValue}
 use Rattle.base.specs.declared.record_type.RecordType.{RecordType}
 use Rattle.base_data.specs.declared.rdata.RData.{RData}
-use Rattle.op.specs.declared.response_code.ResponseCode.TheVariants.{NXDomain, ServFail}
+use Rattle.op.specs.declared.response_code.ResponseCode.TheVariants.{ServFail}
 use Rattle.op_use.specs.Zone.{Zone}
 use Rattle.rr.specs.declared.record.Record.{Record}
 use Rattle.std.proofs.Common.{ap, append_assoc, arith, inl, inr, length, refl, subst, sym, ◌+◌, ◌++◌, ◌≤◌, ◌∙◌}
@@ -216,17 +216,3 @@ module _ (z : Zone) (t : RecordType) where
 
   pub answers_are_led : (room : ℕ) (n : NameValue) → AreLed z t n (room + 1) (answer z t room [] n).answers
   answers_are_led room n = (led_to room n).0
-
-  no_name_by : (f : Finding) → code_for f ≡ NXDomain → f ≡ NoName
-  no_name_by NoName h = refl
-  no_name_by f h = cc
-
-  pub no_name_is_of_last : (room : ℕ) (n : NameValue) → (answer z t room [] n).code ≡ NXDomain
-      → (last : NameValue) × (lookup z t last ≡ NoName) × ((answer z t room [] n).authorities ≡ negative z last)
-  no_name_is_of_last room n h = let led = led_to room n in go led.0.last led.1 where
-    go : (last : NameValue) → EndsFor z t last (answer z t room [] n) → (last : NameValue)
-        × (lookup z t last ≡ NoName) × ((answer z t room [] n).authorities ≡ negative z last)
-    go last (inl (code, authorities)) =
-        let none : lookup z t last ≡ NoName = no_name_by (lookup z t last) (sym code ∙ h) in
-        (last, none, authorities ∙ ap (authorities_for z last) none)
-    go last (inr (code, authorities)) = cc

@@ -18,6 +18,7 @@ pub mod InsideLemmas
 pub mod LawLemmas
 pub mod OnceLaws
 pub mod OnceLemmas
+pub mod OwnSets
 pub mod RecordLemmas
 pub mod SentLemmas
 pub mod SetLemmas

@@ -16,7 +16,6 @@ use Rattle.rr.specs.RecordSet.{SetValue}
 use Rattle.std.proofs.Common.{ap, append_assoc, drop, refl, subst, sym, ◌++◌, ◌∙◌}
 use Rattle.std.proofs.lemmas.Bool.{cond-false, cond-true, false≢true, or_parts}
 use Rattle.std.proofs.lemmas.Option.{same_Some}
-use Rattle.std.specs.Bool.{then_some}
 use Rattle.std.specs.BTreeMap as tree
 use Rattle.std.specs.BTreeMap.{BTreeMap}
 use Rattle.std.specs.Char.{to_ascii_lowercase}
@@ -143,7 +142,3 @@ module _ (origin : NameValue) (m : BTreeMap RrKey SetValue) where
       (encloses_by class n false false (sym none) (sym other)))
       ∙ ap (if_exists (z_of class)) (sym w)
       ∙ ap (λ b. cond b (Some wildcard) None) (exists_is origin class m wildcard ∙ sym t)
-
-pub then_some_is : (b : Bool) (n : NameValue) → then_some b n ≡ cond b (Some n) None
-then_some_is true n = refl
-then_some_is false n = refl

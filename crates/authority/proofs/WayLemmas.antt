@@ -118,13 +118,18 @@ one_more z absolute [] h = let s : Starts z.origin absolute [] = starts z.origin
 one_more z absolute (label ∷ labels) h =
     ap (λ b. ends_below z absolute labels ++ cond b (name_with absolute (label ∷ labels) ∷ []) []) h
 
-or_none : (o : Option NameValue) → option_or o None ≡ o
+pub or_none : {X : Type 0} (o : Option X) → option_or o None ≡ o
 or_none None = refl
 or_none (Some x) = refl
 
 or_or : (a b c : Option NameValue) → option_or (option_or a b) c ≡ option_or a (option_or b c)
 or_or None b c = refl
 or_or (Some x) b c = refl
+
+cuts_or : (m : BTreeMap RrKey SetValue) (c d : Option NameValue) (o g : Option SetValue) → IsCutSet m c o
+    → IsCutSet m d g → IsCutSet m (option_or c d) (option_or o g)
+cuts_or m None d o g e f = subst (λ x. IsCutSet m d (option_or x g)) (sym e) f
+cuts_or m (Some x) d o g e f = (e.0, ap (λ y. option_or y g) e.1, e.2)
 
 -- The highest cut on the way is the highest on the rest of it, or what was found so far.
 module _ (origin : NameValue) (m : BTreeMap RrKey SetValue) where
@@ -154,24 +159,32 @@ module _ (origin : NameValue) (m : BTreeMap RrKey SetValue) where
         ap (find (has_servers z)) (one_more z end.absolute end.labels h)
         ∙ find-append (has_servers z) (way z (parent end)) (end ∷ [])
 
+    own_set : (end : NameValue) (o : Option SetValue) → tree.get key_cmp m (key_of end types.NS) ≡ o
+        → IsCutSet m (cond (has_servers z end) (Some end) None) o
+    own_set end None g = subst (λ b. IsCutSet m (cond b (Some end) None) None)
+        (sym (set_at origin class m (key_of end types.NS) ∙ ap is_some g)) refl
+    own_set end (Some s) g =
+        subst (λ b. IsCutSet m (cond b (Some end) None) (Some s))
+        (sym (set_at origin class m (key_of end types.NS) ∙ ap is_some g)) (s, refl, g)
+
     next : (n end : NameValue) (o : Option SetValue) → is_below origin end ≡ true → (c : Option NameValue)
         → IsCutSet m c o → cut_on n ≡ option_or (cut_on end) c
         → (g : Option SetValue) → tree.get key_cmp m (key_of end types.NS) ≡ g
         → (d : Option NameValue) × IsCutSet m d (option_or g o) × (cut_on n ≡ option_or (cut_on (parent end)) d)
-    next n end o h c held e None g = (
-      c,
-      held,
-      e ∙ ap (λ x. option_or x c) (own_cut end h
-          ∙ ap (λ b. option_or (cut_on (parent end)) (cond b (Some end) None)) (set_at origin class m
-          (key_of end types.NS) ∙ ap is_some g) ∙ or_none (cut_on (parent end))),
-    )
-    next n end o h c held e (Some s) g = (
-      Some end,
-      (s, refl, g),
-      e ∙ ap (λ x. option_or x c) (own_cut end h
-          ∙ ap (λ b. option_or (cut_on (parent end)) (cond b (Some end) None)) (set_at origin class m
-          (key_of end types.NS) ∙ ap is_some g)) ∙ or_or (cut_on (parent end)) (Some end) c,
-    )
+    next n end o h c held e g there =
+        let own = cond (has_servers z end) (Some end) None in (
+          option_or own c,
+          cuts_or m own c g o (own_set end g there) held,
+          e ∙ ap (λ x. option_or x c) (own_cut end h) ∙ or_or (cut_on (parent end)) own c,
+        )
+
+    -- the highest cut on the way above a name, or else its own
+    pub own_after : (n : NameValue) (o g : Option SetValue) → is_below origin n ≡ true
+        → IsCutSet m (cut_on (parent n)) o → tree.get key_cmp m (key_of n types.NS) ≡ g
+        → IsCutSet m (cut_on n) (option_or o g)
+    own_after n o g h above there =
+        subst (λ c. IsCutSet m c (option_or o g)) (sym (own_cut n h))
+        (cuts_or m (cut_on (parent n)) (cond (has_servers z n) (Some n) None) o g above (own_set n g there))
 
   pub way_goes_on : (n end : NameValue) (o g : Option SetValue) → is_below origin end ≡ true
       → tree.get key_cmp m (key_of end types.NS) ≡ g → IsOnWay n end o

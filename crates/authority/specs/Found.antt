@@ -1,11 +1,13 @@
 -- What `lookup` answers, as what the zone has.
-use Rattle.authority.specs.Lookup.{Alias, Cut, Data, Finding, NoName, Outside, alias_in, records_of}
+use Rattle.authority.specs.Lookup.{Alias, Cut, Data, Finding, NoName, Outside, alias_in, exists_among, records_of}
 use Rattle.authority.specs.declared.found.Found.TheVariants as codes
 use Rattle.authority.specs.declared.found.Found.{Found}
+use Rattle.authority.specs.declared.sets.AtName.{AtName}
 use Rattle.base.specs.names.Labels.{NameValue}
 use Rattle.base.specs.RrKey.{key_cmp, key_of}
 use Rattle.base.specs.declared.dns_class.DNSClass.{DNSClass}
 use Rattle.base.specs.declared.record_type.RecordType.TheVariants as types
+use Rattle.base.specs.declared.record_type.RecordType.{RecordType}
 use Rattle.base.specs.declared.rr_key.RrKey.{RrKey}
 use Rattle.base_data.specs.declared.rdata.RData.{RData}
 use Rattle.op_use.specs.Applying.{data_in_set}
@@ -15,6 +17,7 @@ use Rattle.std.specs.BTreeMap as tree
 use Rattle.std.specs.BTreeMap.{BTreeMap}
 use Rattle.std.specs.Borrow.{Bor}
 use Rattle.std.specs.List.{flat_map}
+use Rattle.std.specs.Option.{option_copied}
 use Rattle.std.specs.Prelude.{List, None, Option, Some, [], ◌≡◌}
 
 -- the records that are answered of a set, whose owner is the name as it was asked
@@ -26,6 +29,13 @@ abbrev pub records_found : DNSClass → NameValue → Found → List (Record RDa
 records_found class owner (codes.Data s) = answered class owner s.now
 records_found class owner (codes.All found) = flat_map (λ s. answered class owner s.now) found.items
 records_found class owner _ = []
+
+-- What stands at a name is what the map has under its keys, and whether it has any at the name or below it.
+abbrev pub IsAtName : BTreeMap RrKey SetValue → NameValue → RecordType → AtName → Type 0
+IsAtName sets n t own = (own.exists ≡ exists_among n (tree.keys sets))
+    × (option_copied own.servers ≡ tree.get key_cmp sets (key_of n types.NS))
+    × (option_copied own.alias ≡ tree.get key_cmp sets (key_of n types.CNAME))
+    × (option_copied own.asked ≡ tree.get key_cmp sets (key_of n t))
 
 -- the set of name servers at a cut, if there is a cut
 abbrev pub IsCutSet : BTreeMap RrKey SetValue → Option NameValue → Option SetValue → Type 0

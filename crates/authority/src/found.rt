@@ -1,14 +1,19 @@
 //! What a zone has for a name and a type (RFC 1034, 4.3.2, steps 2 and 3).
 
-ghost use Rattle.authority.specs.Found.{IsAlias, IsFound};
-ghost use Rattle.authority.specs.Lookup.{alias_at as the_alias, at_source, first_target, lookup as the_finding};
+ghost use Rattle.authority.specs.Found.{IsAlias, IsAtName, IsFound};
+ghost use Rattle.authority.specs.Lookup.{alias_at as the_alias, at_source, exists_among, first_target, lookup as the_finding, source};
+ghost use Rattle.base.specs.RrKey.{key_cmp, key_of};
 ghost use Rattle.base.specs.names.Labels.{NameValue};
+ghost use Rattle.base.specs.names.Parents.{is_within as lies_within};
 ghost use Rattle.base.specs.declared.dns_class.DNSClass.{DNSClass as Class};
+ghost use Rattle.base.specs.declared.rr_key.RrKey.{RrKey as Key};
 ghost use Rattle.op_use.specs.Applying.{zone_of_map};
+ghost use Rattle.rr.specs.RecordSet.{SetValue};
+ghost use Rattle.std.specs.BTreeMap.{BTreeMap as Tree, get, keys};
 ghost use Rattle.std.specs.Option.{option_copied};
-ghost use Rattle.std.specs.Prelude.{IfOk, IsOkUnless, Some, ◌≡◌};
+ghost use Rattle.std.specs.Prelude.{IfOk, IsOkUnless, Some, false, true, ◌≡◌};
 
-use crate::sets::{cut_over, is_within, key_of, sets_of, source};
+use crate::sets::{AtName, at_name, cut_over, is_within, sets_of, wildcard_over};
 use base::{Name, ProtoError, RecordType, RrKey};
 use base_data::RData;
 use rr::{Record, RecordSet};
@@ -44,7 +49,8 @@ pub enum Found<'z> {
 /// sets. CNAME and ANY are answered where an alias stands, and no other type; a DS set is looked for above its cut (RFC
 /// 4035, 3.1.4.1). A name whose flag isn't the origin's lies outside.
 ///
-/// Takes a look-up in the map for each label below the origin, and as many more where nothing stands at the name.
+/// Takes a look-up in the map for each label below the origin, a step for each set of the name, and as many look-ups
+/// more where nothing stands at the name.
 ///
 /// # Errors
 ///
@@ -65,66 +71,89 @@ pub fn lookup<'z>(
     if !is_within(origin, name) {
         return Ok(Found::Outside);
     }
-    if let Some(servers) = cut_over(alloc, sets, origin, name, record_type)? {
+    let own = at_name(alloc, sets, name, record_type)?;
+    if let Some(servers) = cut_over(alloc, sets, origin, name, record_type, own.servers)? {
         return Ok(Found::Cut(servers));
     }
-    match source(alloc, sets, origin, name)? {
-        Some(source) => found_at(alloc, sets, &source, record_type),
-        None => Ok(Found::NoName),
+    if own.exists {
+        return found_at(alloc, sets, name, record_type, own);
     }
+    at_wildcard(alloc, sets, origin, name, record_type)
 }
 
-/// What stands at the source of the data.
+/// What stands at the asterisk below the closest encloser of a name at which nothing stands (RFC 4592, 3.3.2).
+fn at_wildcard<'z>(
+    alloc: Global,
+    sets: &'z BTreeMap<RrKey, RecordSet>,
+    origin: &Name,
+    name: &Name,
+    record_type: RecordType,
+) -> Result<Found<'z>, ProtoError>
+    requires within { lies_within origin.now name.now ≡ true }
+    requires none { exists_among name.now (keys sets.now) ≡ false }
+    ensures found { IfOk result (λ found. (class : Class)
+        → let z = zone_of_map origin.now class sets.now in
+        IsFound class sets.now name.now found
+        (at_source z record_type name.now (source z name.now))) }
+    ensures only { IsOkUnless result ProtoError.Memory }
+{
+    // Where nothing stands at the origin or below it, no asterisk does.
+    if *name == *origin {
+        return Ok(Found::NoName);
+    }
+    let wildcard = wildcard_over(alloc, sets, origin, name)?;
+    let there = at_name(alloc, sets, &wildcard, record_type)?;
+    if there.exists {
+        return found_at(alloc, sets, &wildcard, record_type, there);
+    }
+    Ok(Found::NoName)
+}
+
+/// What stands at the source of the data, of which these are the own sets.
 fn found_at<'z>(
     alloc: Global,
     sets: &'z BTreeMap<RrKey, RecordSet>,
     source: &Name,
     record_type: RecordType,
+    own: AtName<'z>,
 ) -> Result<Found<'z>, ProtoError>
+    requires { IsAtName sets.now source.now record_type own }
     ensures found { IfOk result (λ found. (class : Class) (origin n : NameValue)
         → IsFound class sets.now n found
         (at_source (zone_of_map origin class sets.now) record_type n (Some source.now))) }
     ensures only { IsOkUnless result ProtoError.Memory }
 {
-    if let Some((set, target)) = alias_at(alloc, sets, source, record_type)? {
+    if let Some((set, target)) = alias_at(own.alias, record_type) {
         return Ok(Found::Alias(set, target));
     }
     if record_type == RecordType::ANY {
         return Ok(Found::All(sets_of(alloc, sets, source)?));
     }
-    let key = key_of(alloc, source, record_type)?;
-    match sets.get(&key) {
+    match own.asked {
         Some(set) => Ok(Found::Data(set)),
         None => Ok(Found::NoData),
     }
 }
 
-/// The set of the alias that stands there, and where it leads, unless it is asked for itself, or everything is.
+/// The set of the alias that stands at a name, and where it leads, unless it is asked for itself, or everything is.
 fn alias_at<'z>(
-    alloc: Global,
-    sets: &'z BTreeMap<RrKey, RecordSet>,
-    source: &Name,
+    alias: Option<&'z RecordSet>,
     record_type: RecordType,
-) -> Result<Option<(&'z RecordSet, &'z Name)>, ProtoError>
-    ensures found { IfOk result (λ found. (class : Class) (origin n : NameValue)
-        → IsAlias class n found
-        (the_alias (zone_of_map origin class sets.now) record_type n source.now)) }
-    ensures only { IsOkUnless result ProtoError.Memory }
+) -> Option<(&'z RecordSet, &'z Name)>
+    ensures found { (class : Class) (origin n source : NameValue) (sets : Tree Key SetValue)
+        → option_copied alias.entry ≡ get key_cmp sets (key_of source RecordType.CNAME)
+        → IsAlias class n result
+        (the_alias (zone_of_map origin class sets) record_type n source) }
 {
     if record_type == RecordType::CNAME {
-        return Ok(None);
+        return None;
     }
     if record_type == RecordType::ANY {
-        return Ok(None);
+        return None;
     }
-    let key = key_of(alloc, source, RecordType::CNAME)?;
-    let Some(set) = sets.get(&key) else {
-        return Ok(None);
-    };
-    match target_of(set.as_slice()) {
-        Some(target) => Ok(Some((set, target))),
-        None => Ok(None),
-    }
+    let set = alias?;
+    let target = target_of(set.as_slice())?;
+    Some((set, target))
 }
 
 /// The name that the first alias among records leads to.

@@ -2,7 +2,7 @@
 
 ghost use Rattle.authority.specs.Agreement.{Agree, above_cuts, inside, less_additionals};
 ghost use Rattle.authority.specs.Agreement.{message_less_additionals, with_sets};
-ghost use Rattle.authority.specs.Answer.{answer, negative};
+ghost use Rattle.authority.specs.Answer.{answer};
 ghost use Rattle.authority.specs.Chain.{AreLed, EndsFor};
 ghost use Rattle.authority.specs.LetterCase.{answer_lowered, finding_lowered, message_lowered};
 ghost use Rattle.authority.specs.Lookup.{Cut, NoName, cut_over, encloser, exists, has_servers, is_ds};
@@ -30,7 +30,6 @@ ghost use Rattle.base.specs.names.Labels.{NameValue};
 ghost use Rattle.base.specs.names.NameOrder.{same_name};
 ghost use Rattle.base.specs.names.Parents.{is_below, is_within};
 ghost use Rattle.base.specs.declared.record_type.RecordType.{RecordType as Kind};
-ghost use Rattle.op.specs.declared.response_code.ResponseCode.TheVariants.{NXDomain};
 ghost use Rattle.op_use.specs.Zone.{Datum, Zone};
 ghost use Rattle.std.specs.List.{AllByRecursion, IsDistinct};
 ghost use Rattle.std.specs.Prelude.{Bool, Err, List, None, Some, [], false, map, option_map, true, ℕ, ◌+◌, ◌++◌, ◌↔◌, ◌∷◌};
@@ -67,15 +66,6 @@ pub fn authority_is_clear_in_referrals_alone()
     ensures { (z : Zone) (t : Kind) (room : ℕ) (n : NameValue)
         → ((answer z t room [] n).authoritative ≡ false)
         ↔ ((m : NameValue) × (the_finding z t n ≡ Cut m)) }
-{}
-
-/// The code is NXDomain only where the zone has nothing for the last name to which aliases lead, and the authorities
-/// are then the SOA over that name (RFC 2308, 2.1; RFC 6604, 2.1).
-pub fn no_name_is_of_the_last()
-    ensures { (z : Zone) (t : Kind) (room : ℕ) (n : NameValue)
-        → (answer z t room [] n).code ≡ NXDomain
-        → (last : NameValue) × (the_finding z t last ≡ NoName)
-        × ((answer z t room [] n).authorities ≡ negative z last) }
 {}
 
 /// Answers are a chain of aliases, each what the zone has for the name to which the one before it leads, and then the

@@ -1,7 +1,8 @@
 //! Searches of the sets of a zone: each takes the time of a look-up in the map, or of one for each label.
 
-ghost use Rattle.authority.specs.Found.{IsCutSet};
-ghost use Rattle.authority.specs.Lookup.{cut_over as the_cut, encloser, encloses as is_encloser, exists_among, has_servers, source as the_source, way, wildcard_below};
+ghost use Rattle.authority.specs.Found.{IsAtName, IsCutSet};
+ghost use Rattle.authority.specs.Lookup.{cut_over as the_cut, encloser, encloses as is_encloser, has_servers, way, wildcard_below};
+ghost use Rattle.base.specs.RecordType.{same_type};
 ghost use Rattle.base.specs.names.Parents.{is_below as lies_below, is_within as lies_within, parent};
 ghost use Rattle.base.specs.RrKey.{key_cmp, key_of as the_key};
 ghost use Rattle.base.specs.declared.rr_key.RrKey.{RrKey as Key};
@@ -10,10 +11,11 @@ ghost use Rattle.std.specs.List.Sorted.{IsStrictlySortedBy};
 ghost use Rattle.base.specs.declared.dns_class.DNSClass.{DNSClass as Class};
 ghost use Rattle.op_use.specs.Applying.{zone_of_map};
 ghost use Rattle.op_use.specs.Zone.{is_owned};
-ghost use Rattle.std.specs.BTreeMap.{keys};
+ghost use Rattle.std.specs.BTreeMap.{get, keys};
+ghost use Rattle.std.specs.Bool.{then_some};
 ghost use Rattle.std.specs.List.{filter, find};
 ghost use Rattle.std.specs.Map.{values_of};
-ghost use Rattle.std.specs.Option.{option_copied};
+ghost use Rattle.std.specs.Option.{option_copied, option_or};
 ghost use Rattle.std.specs.Prelude.{IfOk, IsOkUnless, OnOk, map, true, ◌≡◌};
 
 use base::{LowerName, Name, ProtoError, RecordType, RrKey};
@@ -47,16 +49,65 @@ fn is_below(other: &Name, name: &Name) -> bool
     is_within(other, name) && *name != *other
 }
 
-/// Whether something stands at a name or below it (RFC 4592, 2.2.2; RFC 8020, 2): the first key from the name on tells.
-fn exists(alloc: Global, sets: &BTreeMap<RrKey, RecordSet>, name: &Name) -> Result<bool, ProtoError>
-    ensures value { IfOk result (λ b. b ≡ exists_among name.now (keys sets.now)) }
+/// What stands at a name: of its own sets those that a look-up asks for.
+#[derive(Clone, Copy, Drop)]
+pub(crate) struct AtName<'z> {
+    /// Something stands there or below it (RFC 4592, 2.2.2; RFC 8020, 2).
+    pub(crate) exists: bool,
+    /// The name servers.
+    pub(crate) servers: Option<&'z RecordSet>,
+    /// The alias.
+    pub(crate) alias: Option<&'z RecordSet>,
+    /// The set of the type that is asked for.
+    pub(crate) asked: Option<&'z RecordSet>,
+}
+
+/// What stands at a name, in one walk: the first key from its least one on tells whether something is there, and the
+/// keys of its own sets come first.
+pub(crate) fn at_name<'z>(
+    alloc: Global,
+    sets: &'z BTreeMap<RrKey, RecordSet>,
+    name: &Name,
+    record_type: RecordType,
+) -> Result<AtName<'z>, ProtoError>
+    ensures value { IfOk result (λ own. IsAtName sets.now name.now record_type own) }
     ensures only { IsOkUnless result ProtoError.Memory }
 {
     let least = key_of(alloc, name, RecordType::ZERO)?;
-    match sets.range(&least..).next() {
-        Some((key, _)) => Ok(is_within(name, key.name.as_name())),
-        None => Ok(false),
+    let mut own = AtName {
+        exists: false,
+        servers: None,
+        alias: None,
+        asked: None,
+    };
+    for (key, set) in sets.range(&least..) {
+        if least.name != key.name {
+            return Ok(AtName {
+                exists: own.exists || is_within(name, key.name.as_name()),
+                ..own
+            });
+        }
+        own = AtName {
+            exists: true,
+            servers: own_set(own.servers, RecordType::NS, key, set),
+            alias: own_set(own.alias, RecordType::CNAME, key, set),
+            asked: own_set(own.asked, record_type, key, set),
+        };
     }
+    Ok(own)
+}
+
+/// The set of a type that was found before, or else this one, where its key is of the type.
+fn own_set<'z>(
+    before: Option<&'z RecordSet>,
+    record_type: RecordType,
+    key: &RrKey,
+    set: &'z RecordSet,
+) -> Option<&'z RecordSet>
+    ensures { option_copied result ≡ option_or (option_copied before.entry)
+        (then_some (same_type record_type key.now.record_type) set.now) }
+{
+    before.or((record_type == key.record_type).then_some(set))
 }
 
 /// The name servers at the highest cut on the way from the origin to a name (RFC 1034, 4.2.1; 4.3.2, 3b).
@@ -82,26 +133,32 @@ fn highest_cut<'z>(
     Ok(highest)
 }
 
-/// The name servers at the cut that a question is referred to. A DS set stands above its own cut (RFC 4035, 3.1.4.1).
+/// The name servers at the cut that a question is referred to, where these are the name's own. A DS set stands above its
+/// own cut (RFC 4035, 3.1.4.1).
 pub(crate) fn cut_over<'z>(
     alloc: Global,
     sets: &'z BTreeMap<RrKey, RecordSet>,
     origin: &Name,
     name: &Name,
     record_type: RecordType,
+    own: Option<&'z RecordSet>,
 ) -> Result<Option<&'z RecordSet>, ProtoError>
+    requires { option_copied own ≡ get key_cmp sets.now (the_key name.now RecordType.NS) }
     ensures value { IfOk result (λ o. (class : Class)
         → IsCutSet sets.now
         (the_cut (zone_of_map origin.now class sets.now) record_type name.now)
         (option_copied o)) }
     ensures only { IsOkUnless result ProtoError.Memory }
 {
-    if record_type == RecordType::DS {
-        let above = name.base_name()?;
-        return highest_cut(alloc, sets, origin, above);
+    if !is_below(origin, name) {
+        return Ok(None);
     }
-    let own = name.clone()?;
-    highest_cut(alloc, sets, origin, own)
+    let above = name.base_name()?;
+    let highest = highest_cut(alloc, sets, origin, above)?;
+    if record_type == RecordType::DS {
+        return Ok(highest);
+    }
+    Ok(highest.or(own))
 }
 
 /// Whether a name exists, or is the origin, which does in any case.
@@ -115,12 +172,14 @@ fn encloses(
         → b ≡ is_encloser (zone_of_map origin.now class sets.now) name.now) }
     ensures only { IsOkUnless result ProtoError.Memory }
 {
-    let exists = exists(alloc, sets, name)?;
-    Ok(exists || *name == *origin)
+    if *name == *origin {
+        return Ok(true);
+    }
+    Ok(at_name(alloc, sets, name, RecordType::ZERO)?.exists)
 }
 
 /// The asterisk below the closest encloser of a name at which nothing stands (RFC 4592, 3.3.1).
-fn wildcard_over(
+pub(crate) fn wildcard_over(
     alloc: Global,
     sets: &BTreeMap<RrKey, RecordSet>,
     origin: &Name,
@@ -140,30 +199,6 @@ fn wildcard_over(
         }
         closer = above;
     }
-}
-
-/// Where the data of a name stands: there, or at the asterisk below its closest encloser (RFC 1034, 4.3.2, 3c; RFC
-/// 4592, 3.3.2).
-pub(crate) fn source(
-    alloc: Global,
-    sets: &BTreeMap<RrKey, RecordSet>,
-    origin: &Name,
-    name: &Name,
-) -> Result<Option<Name>, ProtoError>
-    requires { lies_within origin.now name.now ≡ true }
-    ensures value { IfOk result (λ o. (class : Class)
-        → o ≡ the_source (zone_of_map origin.now class sets.now) name.now) }
-    ensures only { IsOkUnless result ProtoError.Memory }
-{
-    if exists(alloc, sets, name)? {
-        return Ok(Some(name.clone()?));
-    }
-    // Where nothing stands at the origin or below it, no asterisk does.
-    if *name == *origin {
-        return Ok(None);
-    }
-    let wildcard = wildcard_over(alloc, sets, origin, name)?;
-    Ok(exists(alloc, sets, &wildcard)?.then_some(wildcard))
 }
 
 /// The sets of an owner, in the order of their types.

@@ -1,40 +1,51 @@
 use Rattle.authority.proofs.AliasLemmas.{alias_from, leads, leads_nowhere}
 use Rattle.authority.proofs.SetLemmas.{no_records, records_there}
 use Rattle.authority.proofs.found.alias_at.Goals as goal
-use Rattle.authority.specs.Lookup.{alias_in, first_target}
+use Rattle.authority.specs.Found.{IsAlias}
+use Rattle.authority.specs.Lookup.{alias_at, alias_in, first_target}
+use Rattle.base.specs.names.Labels.{NameValue}
 use Rattle.op_use.specs.Applying.{zone_of_map}
-use Rattle.base.specs.RrKey.{key_cmp}
-use Rattle.op_use.proofs.TypeSteps.{any_is, cname_is}
-use Rattle.std.proofs.Common.{ap, sym, ◌∙◌}
-use Rattle.std.specs.BTreeMap.{get}
+use Rattle.rr.specs.RecordSet.{SetValue}
+use Rattle.std.proofs.Common.{Bor, Option, ap, subst, sym, ◌∙◌}
+use Rattle.std.specs.Option.{option_copied}
 
-pub returns-in_default-clause-found : goal.returns-in_default-clause-found
-returns-in_default-clause-found c = λ class origin n.
-    alias_from (zone_of_map origin class c.args.sets.now) c.args.record_type n c.args.source.now
-    (cname_is c.args.record_type ∙ sym c.eq.ensures ∙ c.if-eq.false) (any_is c.args.record_type
-    ∙ sym c.eq-2.ensures ∙ c.if-eq-2.false)
-    ∙ ap alias_in (no_records origin class c.args.sets.now n _ (ap (get key_cmp c.args.sets.now)
-    (sym c.in_ok-key.ensures.value) ∙ sym c.in_default.ensures.value))
+pub returns-in_err-set : goal.returns-in_err-set
+returns-in_err-set c = record {
+  found = λ class origin n source sets there.
+      let z = zone_of_map origin class sets in
+      let t = c.args.record_type in
+      subst (λ (r : Option (Bor SetValue × Bor NameValue)). IsAlias class n r (alias_at z t n source))
+      (sym c.from_residual.ensures)
+      (alias_from z t n source (sym c.eq.ensures ∙ c.if-eq.false) (sym c.eq-2.ensures ∙ c.if-eq-2.false)
+      ∙ ap alias_in (no_records origin class sets n _ (sym there ∙ ap option_copied c.in_err-set.was)));
+}
 
-pub returns-in-Some-target_of-clause-found : goal.returns-in-Some-target_of-clause-found
-returns-in-Some-target_of-clause-found c = λ class origin n.
-    let led = leads class n c.in-Some-target_of.target.now c.in-Some.set.now.records (ap first_target
-    (sym c.as_slice.ensures) ∙ sym c.in-Some-target_of.ensures) in (
-      led.0,
-      alias_from (zone_of_map origin class c.args.sets.now) c.args.record_type n c.args.source.now
-          (cname_is c.args.record_type ∙ sym c.eq.ensures ∙ c.if-eq.false) (any_is c.args.record_type
-          ∙ sym c.eq-2.ensures ∙ c.if-eq-2.false)
-          ∙ ap alias_in (records_there origin class c.args.sets.now n _ c.in-Some.set.now (ap
-          (get key_cmp c.args.sets.now) (sym c.in_ok-key.ensures.value) ∙ sym c.in-Some.ensures.value))
-          ∙ led.1,
-      led.1,
-    )
+pub returns-in_err-target : goal.returns-in_err-target
+returns-in_err-target c = record {
+  found = λ class origin n source sets there.
+      let z = zone_of_map origin class sets in
+      let t = c.args.record_type in
+      let set = c.in_ok-set.set.now in
+      subst (λ (r : Option (Bor SetValue × Bor NameValue)). IsAlias class n r (alias_at z t n source))
+      (sym c.from_residual-in_err-target.ensures)
+      (alias_from z t n source (sym c.eq.ensures ∙ c.if-eq.false) (sym c.eq-2.ensures ∙ c.if-eq-2.false)
+      ∙ ap alias_in (records_there origin class sets n _ set (sym there ∙ ap option_copied c.in_ok-set.was))
+      ∙ leads_nowhere class n set.records (ap first_target (sym c.as_slice.ensures) ∙ sym c.target_of.ensures
+      ∙ ap option_copied c.in_err-target.was));
+}
 
-pub returns-clause-found : goal.returns-clause-found
-returns-clause-found c = λ class origin n.
-    alias_from (zone_of_map origin class c.args.sets.now) c.args.record_type n c.args.source.now
-    (cname_is c.args.record_type ∙ sym c.eq.ensures ∙ c.if-eq.false) (any_is c.args.record_type
-    ∙ sym c.eq-2.ensures ∙ c.if-eq-2.false)
-    ∙ ap alias_in (records_there origin class c.args.sets.now n _ c.in-Some.set.now (ap
-    (get key_cmp c.args.sets.now) (sym c.in_ok-key.ensures.value) ∙ sym c.in-Some.ensures.value))
-    ∙ leads_nowhere class n c.in-Some.set.now.records (ap first_target (sym c.as_slice.ensures) ∙ sym c.in-None.ensures)
+pub returns : goal.returns
+returns c = record {
+  found = λ class origin n source sets there.
+      let z = zone_of_map origin class sets in
+      let t = c.args.record_type in
+      let set = c.in_ok-set.set.now in
+      let led = leads class n c.in_ok-target.target.now set.records (ap first_target (sym c.as_slice.ensures)
+      ∙ sym c.target_of.ensures ∙ ap option_copied c.in_ok-target.was) in (
+        led.0,
+        alias_from z t n source (sym c.eq.ensures ∙ c.if-eq.false) (sym c.eq-2.ensures ∙ c.if-eq-2.false)
+            ∙ ap alias_in (records_there origin class sets n _ set (sym there ∙ ap option_copied c.in_ok-set.was))
+            ∙ led.1,
+        led.1,
+      );
+}
