@@ -65,7 +65,7 @@ module _ {X : Type 0} where
   found_at true x o c h = refl
   found_at false x o c h = h
 
-  key_in : (q : RrKey) (es : List (RrKey × X)) → has_key q (keys_of es) ≡ is_some (lookup (is_at (key_cmp q)) es)
+  pub key_in : (q : RrKey) (es : List (RrKey × X)) → has_key q (keys_of es) ≡ is_some (lookup (is_at (key_cmp q)) es)
   key_in q [] = refl
   key_in q (e ∷ es) = ap (λ b. b || has_key q (keys_of es)) ((eq_by_cmp_equiv key_cmp-total).symm e.0 q)
       ∙ found_at (eq_by_cmp key_cmp q e.0) e.1 (lookup (is_at (key_cmp q)) es) (has_key q (keys_of es)) (key_in q es)
