@@ -26,10 +26,12 @@ use Rattle.op_use.specs.declared.apply.outcome.Outcome.{Outcome}
 use Rattle.rr.specs.RecordSet.{SetValue}
 use Rattle.rr.specs.SetUpdates.{last_ttl}
 use Rattle.rr.specs.declared.record.Record.{Record}
-use Rattle.std.proofs.Common.{ap, arith, drop, inl, inr, refl, subst, sym, take, ◌∙◌, ◌⊎◌}
+use Rattle.std.proofs.Common.{ap, arith, drop, get_or, inl, length, length-drop, inr, refl, subst, sym, take, ◌∙◌, ◌⊎◌}
 use Rattle.std.proofs.Math.Bool.{and-false, and_comm, or-false}
 use Rattle.std.proofs.lemmas.Bool.{cond-true, false_from_ne_true, true_from_ne_false, true≢false}
 use Rattle.std.proofs.lemmas.List.Folds.{list_any-append}
+use Rattle.std.proofs.lemmas.List.Sums.{prefix_len-le-length}
+use Rattle.std.proofs.lemmas.List.{drop-drop, drop_more, take_all}
 use Rattle.std.proofs.lemmas.Map.Views.{any-filter_same}
 use Rattle.std.specs.BTreeMap as tree
 use Rattle.std.specs.BTreeMap.{BTreeMap}
@@ -37,7 +39,7 @@ use Rattle.std.specs.Borrow.{Bor}
 use Rattle.std.specs.List.{filter, prefix_len}
 use Rattle.std.specs.Ordering.{eq_by_cmp}
 use Rattle.std.specs.Prelude.{Bool, List, None, Option, Some, [], cond, false, is_some, not, option_map, true}
-use Rattle.std.specs.Prelude.{ℕ, ◌&&◌, ◌++◌, ◌+◌, ◌<◌, ◌||◌, ◌∷◌, ◌≡◌, ◌≢◌}
+use Rattle.std.specs.Prelude.{ℕ, ◌&&◌, ◌++◌, ◌+◌, ◌-◌, ◌<◌, ◌≤◌, ◌||◌, ◌∷◌, ◌≡◌, ◌≢◌}
 
 -- ---- a set that is settled
 
@@ -345,6 +347,54 @@ module _ (rs : List (Record RData)) (z : HeldZone) where
     pub some_here : 0 < k
     some_here = subst (λ us. 0 < prefix_len (of_run n) us) (sym is)
         (subst (λ b. 0 < cond b (1 + prefix_len (of_run n) more) 0) (sym ((same_by-equiv folded).refl n)) (positive _))
+
+  -- the updates of one owner, from a place on
+  module _ (xs all : List (Bor (Record RData))) (done count : ℕ) (d : Bor (Record RData)) (o : Outcome)
+      (same : all ≡ xs) (here : done < length xs) (up : Ascends (drop done xs)) (h : IsGathered (drop done xs) o) where
+    abbrev part : List (Bor (Record RData))
+    part = take (length all - done) (drop done all)
+
+    abbrev at : Bor (Record RData)
+    at = get_or part 0 d
+
+    part_is : part ≡ drop done xs
+    part_is = take_all (length all - done) (drop done all) (omega (arith, length-drop done all)) ∙ ap (drop done) same
+
+    part_len : length part ≡ length xs - done
+    part_len = ap length part_is ∙ length-drop done xs
+
+    head : part ≡ at ∷ drop (0 + 1) part
+    head = drop_more part 0 d (omega (arith, part_len, here))
+
+    up_here : Ascends part
+    up_here = subst Ascends (sym part_is) up
+
+    h_here : IsGathered part o
+    h_here = subst (λ us. IsGathered us o) (sym part_is) h
+
+    module _ (counted : count ≡ prefix_len (of_run at.now.name) part) where
+      pub step_names : (q : RrKey) → names_owner (each (take count part)) q ≡ true → is_owned at.now.name q ≡ true
+      step_names q e = gathered_names at (drop (0 + 1) part) part head o up_here h_here q
+          (ap (λ k. names_owner (each (take k part)) q) (sym counted) ∙ e)
+
+      pub step_new : (q : RrKey) → is_owned at.now.name q ≡ true → HasNothing o q
+      step_new q e = gathered_new at (drop (0 + 1) part) part head o up_here h_here q e
+
+      pub step_next : (next : Outcome) → UpdatesOwner at.now.name (each (take count part)) z o next
+          → (done + count ≤ length xs) × Ascends (drop (done + count) xs) × IsGathered (drop (done + count) xs) next
+      step_next next did =
+          let drops : drop (prefix_len (of_run at.now.name) part) part ≡ drop (done + count) xs =
+          ap (drop (prefix_len (of_run at.now.name) part)) part_is
+          ∙ drop-drop (prefix_len (of_run at.now.name) part) done xs ∙ ap (λ k. drop (done + k) xs) (sym counted) in (
+            omega (arith, counted, prefix_len-le-length (of_run at.now.name) part, part_len, here),
+            subst Ascends drops (ascends_next at (drop (0 + 1) part) part head o up_here h_here),
+            subst (λ us. IsGathered us next) drops
+                (gathered_next at (drop (0 + 1) part) part head o up_here h_here next
+                (subst (λ k. UpdatesOwner at.now.name (each (take k part)) z o next) counted did)),
+          )
+
+      pub step_smaller : length xs - (done + count) < length xs - done
+      step_smaller = omega (arith, counted, some_here at (drop (0 + 1) part) part head o up_here h_here, here)
 
   pub gathered_last : (rest : List (Bor (Record RData))) (o : Outcome) → IsZoneMap z.class z.sets → rest ≡ []
       → IsGathered rest o → UpdatesTo rs z o
