@@ -83,10 +83,6 @@ module _ {X : Type 0} where
   pub none_in : (m : BTreeMap RrKey X) (q : RrKey) → m.entries ≡ [] → tree.get key_cmp m q ≡ None
   none_in m q none = ap (lookup (is_at (key_cmp q))) none
 
-  pub none_more : (m : BTreeMap RrKey X) (q : RrKey) → (0 < length m.entries → false ≡ true)
-      → tree.get key_cmp m q ≡ None
-  none_more m q h = none_in m q (emptied m.entries h)
-
   -- the new map has o under a key, and else what the old one has
   abbrev pub Sets : RrKey → Option X → BTreeMap RrKey X → BTreeMap RrKey X → Type 0
   Sets k o old new = (q : RrKey) → tree.get key_cmp new q ≡ cond (eq_by_cmp key_cmp k q) o (tree.get key_cmp old q)

@@ -330,14 +330,18 @@ module _ (rs : List (Record RData)) (z : HeldZone) where
     pub gathered_names : (q : RrKey) → names_owner own q ≡ true → is_owned n q ≡ true
     gathered_names q named =
         let least : RrKey = record { name = lowered n; record_type = types.ZERO } in
-        own_beside least (each rest) q (ap (λ us. names_owner us q) (here least ((same_by-equiv exact).refl (lowered n)))
+        own_beside least (each rest) q (ap (λ us. names_owner us q)
+        (here least ((same_by-equiv exact).refl (lowered n)))
         ∙ named)
 
     pub gathered_next : (next : Outcome) → UpdatesOwner n own z o next → IsGathered (drop k rest) next
     gathered_next next done q = by (is_owned n q) refl where
       by : (b : Bool) → is_owned n q ≡ b
           → IsGatheredAt rs z q (own_updates q (each (drop k rest))) (change_at next q)
-      by true e = inr (own_is n q e (drop k rest) ∙ front.1, leaves_own z rs own q _ (gathered_own q e).0 (done.own q e))
+      by true e = inr (
+        own_is n q e (drop k rest) ∙ front.1,
+        leaves_own z rs own q _ (gathered_own q e).0 (done.own q e),
+      )
       by false e = subst (λ (p : List (Record RData) × Change). IsGatheredAt rs z q p.0 p.1)
           (λ i. (sym (beside n q e rest) i, sym (done.others q e) i)) (h q)
 

@@ -122,7 +122,8 @@ module _ (n : NameValue) where
   -- ---- by keys
 
   pub own_is : (q : RrKey) → is_owned n q ≡ true → (rs : List Update) → own_updates q (each rs) ≡ own rs
-  own_is q e rs i = filter (λ (r : Record RData). same_lower (lowered r.name) (sym (same_lower-exact (lowered n) q.name e) i))
+  own_is q e rs i = filter (λ (r : Record RData). same_lower (lowered r.name)
+      (sym (same_lower-exact (lowered n) q.name e) i))
       (each rs)
 
   pub beside : (q : RrKey) → is_owned n q ≡ false → (rs : List Update)
@@ -163,13 +164,15 @@ module _ (xs ys : List Update) (stable : IsStableBy is_below xs ys) (moved : IsP
               none Equal = refl
               none Greater = refl
 
-  tied : (r : Update) → is_own r ≡ true → (rs : List Update) → each (filter (ties is_below r) rs) ≡ own_updates q (each rs)
+  tied : (r : Update) → is_own r ≡ true → (rs : List Update)
+      → each (filter (ties is_below r) rs) ≡ own_updates q (each rs)
   tied r own [] = refl
-  tied r own (s ∷ rs) = by (ties is_below r s) ∙ (λ i. cond (ties_are r s own i) (s.now ∷ tied r own rs i) (tied r own rs i)) where
-    by : (b : Bool) → each (cond b (s ∷ filter (ties is_below r) rs) (filter (ties is_below r) rs))
-        ≡ cond b (s.now ∷ each (filter (ties is_below r) rs)) (each (filter (ties is_below r) rs))
-    by true = refl
-    by false = refl
+  tied r own (s ∷ rs) = by (ties is_below r s)
+      ∙ (λ i. cond (ties_are r s own i) (s.now ∷ tied r own rs i) (tied r own rs i)) where
+        by : (b : Bool) → each (cond b (s ∷ filter (ties is_below r) rs) (filter (ties is_below r) rs))
+            ≡ cond b (s.now ∷ each (filter (ties is_below r) rs)) (each (filter (ties is_below r) rs))
+        by true = refl
+        by false = refl
 
   one : (rs : List Update) → list_any is_own rs ≡ true → (r : Update) × (is_own r ≡ true)
   one [] h = absurd cc

@@ -4,24 +4,24 @@ use Rattle.base.specs.RrKey.{key_cmp}
 use Rattle.base.specs.declared.dns_class.DNSClass.{DNSClass}
 use Rattle.base.specs.declared.rr_key.RrKey.{RrKey}
 use Rattle.base_data.specs.declared.rdata.RData.{RData}
-use Rattle.op_use.proofs.KeySets.{Sets, each_key, key_in, last_beside, put_beside, put_here}
+use Rattle.op_use.proofs.KeySets.{Sets, each_key, key_in, put_beside, put_here}
 use Rattle.op_use.proofs.ZoneSteps.{tied}
 use Rattle.op_use.specs.Applying.{HasSameSets, IsZoneMap, records_in}
 use Rattle.op_use.specs.MapUpdates.{LacksKeys, has_key, names_set}
-use Rattle.op_use.specs.Outcome.{Change, FitsThere, HasNothing, IsSettled, SettlesAt, added_at, change_at, changed, found}
+use Rattle.op_use.specs.Outcome.{Change, FitsThere, HasNothing, IsSettled, SettlesAt, added_at, change_at, changed}
+use Rattle.op_use.specs.Outcome.{found}
 use Rattle.op_use.specs.Outcome.{no_change}
 use Rattle.op_use.specs.Server.{is_under}
 use Rattle.op_use.specs.declared.apply.outcome.Outcome.{Outcome}
 use Rattle.rr.specs.Record.{record_key}
 use Rattle.rr.specs.RecordSet.{SetValue}
 use Rattle.rr.specs.declared.record.Record.{Record}
-use Rattle.std.proofs.Common.{ap, inl, inr, refl, subst, sym, ◌∙◌}
+use Rattle.std.proofs.Common.{ap, append_assoc, inl, inr, refl, subst, sym, ◌∙◌}
 use Rattle.std.proofs.Math.Bool.{or-false, or-true}
 use Rattle.std.proofs.lemmas.Bool.{true≢false}
 use Rattle.std.proofs.lemmas.List.Elements.{filter-append}
 use Rattle.std.proofs.lemmas.List.Folds.{list_any-append}
 use Rattle.std.proofs.lemmas.List.{append-nil}
-use Rattle.std.proofs.Common.{append_assoc}
 use Rattle.std.specs.BTreeMap as tree
 use Rattle.std.specs.BTreeMap.{BTreeMap, is_at}
 use Rattle.std.specs.Cmp.{eq_by_cmp_equiv}

@@ -33,12 +33,13 @@ added_at None old = old
 abbrev pub found : List (RrKey × SetValue) → RrKey → Option SetValue
 found es q = lookup (tree.is_at (key_cmp q)) es
 
--- what an outcome has under a key: a set that is added, one in the place of another, and whether a set goes
+-- what is changed under a key: a set is added, one is put in the place of another, a set goes
 pub record Change : Type 0 where
   pub added : Option SetValue
   pub replaced : Option SetValue
   pub is_gone : Bool
 
+-- what an outcome changes under a key
 abbrev pub change_at : Outcome → RrKey → Change
 change_at o q = record {
   added = found o.added.items q;

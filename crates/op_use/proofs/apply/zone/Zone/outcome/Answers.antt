@@ -1,4 +1,3 @@
-use Rattle.base.specs.RrKey.{key_cmp}
 use Rattle.op_use.proofs.OutcomeSteps.{gathered_first, gathered_last, step_names, step_new, step_next, step_smaller}
 use Rattle.op_use.proofs.OwnerRuns.{ascending}
 use Rattle.op_use.proofs.apply.zone.Zone.outcome.Goals as goal
@@ -6,7 +5,7 @@ use Rattle.op_use.specs.Applying.{IsZoneMap}
 use Rattle.op_use.specs.HeldZone.{HeldZone}
 use Rattle.op_use.specs.MapUpdates.{has_key}
 use Rattle.op_use.specs.Outcome.{found}
-use Rattle.std.proofs.Common.{[], arith, drop, length, subst, ◌<◌, ◌≡◌, ◌≤◌}
+use Rattle.std.proofs.Common.{arith, drop, length, subst, ◌<◌, ◌≤◌}
 use Rattle.std.proofs.lemmas.List.{drop_all}
 
 pub loop-done-init : goal.loop-done-init
