@@ -65,7 +65,7 @@ module _ {X : Type 0} where
   found_at true x o c h = refl
   found_at false x o c h = h
 
-  key_in : (q : RrKey) (es : List (RrKey × X)) → has_key q (keys_of es) ≡ is_some (lookup (is_at (key_cmp q)) es)
+  pub key_in : (q : RrKey) (es : List (RrKey × X)) → has_key q (keys_of es) ≡ is_some (lookup (is_at (key_cmp q)) es)
   key_in q [] = refl
   key_in q (e ∷ es) = ap (λ b. b || has_key q (keys_of es)) ((eq_by_cmp_equiv key_cmp-total).symm e.0 q)
       ∙ found_at (eq_by_cmp key_cmp q e.0) e.1 (lookup (is_at (key_cmp q)) es) (has_key q (keys_of es)) (key_in q es)
@@ -82,10 +82,6 @@ module _ {X : Type 0} where
 
   pub none_in : (m : BTreeMap RrKey X) (q : RrKey) → m.entries ≡ [] → tree.get key_cmp m q ≡ None
   none_in m q none = ap (lookup (is_at (key_cmp q))) none
-
-  pub none_more : (m : BTreeMap RrKey X) (q : RrKey) → (0 < length m.entries → false ≡ true)
-      → tree.get key_cmp m q ≡ None
-  none_more m q h = none_in m q (emptied m.entries h)
 
   -- the new map has o under a key, and else what the old one has
   abbrev pub Sets : RrKey → Option X → BTreeMap RrKey X → BTreeMap RrKey X → Type 0

@@ -17,6 +17,7 @@ mod Origins
 mod OutcomeSteps
 pub mod OwnerKeys
 mod OwnerParts
+mod OwnerRuns
 pub mod RaisedLemmas
 mod ServerRowsLemmas
 mod SettleSteps

@@ -1,82 +1,78 @@
 -- What updates make of a zone, by what those of each owner make of its sets.
 use Rattle.base.specs.names.Labels.{NameValue}
-use Rattle.base.specs.names.NameOrder.{exact, lower_cmp, lowered, same_lower}
-use Rattle.base.specs.names.NameOrderLaws.{lower_cmp-exact, same_by-equiv, same_lower-exact}
+use Rattle.base.specs.names.NameOrder.{exact, folded, lowered}
+use Rattle.base.specs.names.NameOrderLaws.{same_by-equiv}
 use Rattle.base.specs.RrKey.{key_cmp}
 use Rattle.base.specs.declared.record_type.RecordType.TheVariants as types
 use Rattle.base.specs.declared.dns_class.DNSClass.{DNSClass}
 use Rattle.base.specs.declared.rr_key.RrKey.{RrKey}
 use Rattle.base_data.specs.declared.rdata.RData.{RData}
-use Rattle.op_use.proofs.KeySets.{emptied, owned_key}
+use Rattle.op_use.proofs.KeySets.{owned_key}
 use Rattle.op_use.proofs.MapZones.{get_zone}
-use Rattle.op_use.proofs.ZoneSteps.{equal_of}
-use Rattle.op_use.proofs.OwnerKeys.{owned_is}
+use Rattle.op_use.proofs.ZoneSteps.{same_key}
 use Rattle.op_use.proofs.OwnerParts.{Agrees, of_owner, own_beside, own_named, own_updates, owns_named, records_same}
 use Rattle.op_use.proofs.OwnerParts.{records_stay}
+use Rattle.op_use.proofs.OwnerRuns.{Ascends, IsRun, Starts, beside, irreflexive, own_is, run}
+use Rattle.op_use.proofs.OwnerRuns.{of_owner as of_run}
 use Rattle.op_use.specs.AppliedRecords.{records_after}
 use Rattle.op_use.specs.Applying.{IsZoneMap, IsZoneSet, KeepsSame, data_in_set, names_owner, records_at, records_in}
 use Rattle.op_use.specs.Applying.{zone_of_map}
 use Rattle.op_use.specs.HeldZone.{HeldZone, zone_held}
 use Rattle.op_use.specs.MapUpdates.{IsAfter, IsLeft, IsUpdated, Opens, has_key, names_set}
-use Rattle.op_use.specs.Outcome.{FitsThere, HasNothing, Installs, IsOutcome, IsSettled, Leaves, Settles, SettlesAt}
-use Rattle.op_use.specs.Outcome.{UpdatesOwner, UpdatesTo, added_at, each, outcome_at, updates_of}
+use Rattle.op_use.specs.Outcome.{Change, FitsThere, HasNothing, Installs, IsOutcome, IsSettled, Leaves, Settles}
+use Rattle.op_use.specs.Outcome.{SettlesAt, UpdatesOwner, UpdatesTo, change_at, changed, each, found, no_change}
 use Rattle.op_use.specs.Zone.{is_owned}
 use Rattle.op_use.specs.declared.apply.outcome.Outcome.{Outcome}
 use Rattle.rr.specs.RecordSet.{SetValue}
 use Rattle.rr.specs.SetUpdates.{last_ttl}
 use Rattle.rr.specs.declared.record.Record.{Record}
-use Rattle.std.proofs.Common.{ap, inl, inr, refl, subst, sym, ◌∙◌, ◌⊎◌}
-use Rattle.std.proofs.Math.Bool.{and-false}
-use Rattle.std.proofs.lemmas.Bool.{false_from_ne_true, true_from_ne_false, true≢false}
-use Rattle.std.proofs.lemmas.List.Elements.{filter-append}
-use Rattle.std.proofs.lemmas.List.{append-nil, map-append}
+use Rattle.std.proofs.Common.{ap, arith, drop, get_or, inl, length, length-drop, inr, refl, subst, sym, take, ◌∙◌, ◌⊎◌}
+use Rattle.std.proofs.Math.Bool.{and-false, and_comm, or-false}
+use Rattle.std.proofs.lemmas.Bool.{cond-true, false_from_ne_true, true_from_ne_false, true≢false}
+use Rattle.std.proofs.lemmas.List.Folds.{list_any-append}
+use Rattle.std.proofs.lemmas.List.Sums.{prefix_len-le-length}
+use Rattle.std.proofs.lemmas.List.{drop-drop, drop_more, take_all}
+use Rattle.std.proofs.lemmas.Map.Views.{any-filter_same}
 use Rattle.std.specs.BTreeMap as tree
-use Rattle.std.specs.BTreeMap.{BTreeMap, is_at}
+use Rattle.std.specs.BTreeMap.{BTreeMap}
 use Rattle.std.specs.Borrow.{Bor}
-use Rattle.std.specs.List.{filter}
-use Rattle.std.specs.Map.{lookup}
-use Rattle.std.specs.Ordering.{eq_by_cmp, is_eq}
-use Rattle.std.specs.Prelude.{Bool, List, None, Option, Some, Vec, [], cond, false, is_some, length, option_map, true}
-use Rattle.std.specs.Prelude.{unwrap_or, ◌&&◌, ◌++◌, ◌<◌, ◌∷◌, ◌≡◌, ◌≢◌}
+use Rattle.std.specs.List.{filter, prefix_len}
+use Rattle.std.specs.Ordering.{eq_by_cmp}
+use Rattle.std.specs.Prelude.{Bool, List, None, Option, Some, [], cond, false, is_some, not, option_map, true}
+use Rattle.std.specs.Prelude.{ℕ, ◌&&◌, ◌++◌, ◌+◌, ◌-◌, ◌<◌, ◌≤◌, ◌||◌, ◌∷◌, ◌≡◌, ◌≢◌}
 
 -- ---- a set that is settled
 
-abbrev Change : Type 0
-Change = Option (Option SetValue)
-
--- what is noted under a key at first: no set, where the zone has one and none stands now
+-- what is noted under a key at first: that the set goes, where the zone has one and none stands now
 abbrev pub noted : Option SetValue → Option SetValue → Change
-noted old now = cond (is_some old) (cond (is_some now) None (Some None)) None
+noted old now = record { added = None; replaced = None; is_gone = is_some old && not (is_some now) }
 
 -- by whether updates name the set
 settled_by : (named : Bool) (old now new : Option SetValue)
     → (named ≡ false → (s : SetValue) → now ≡ Some s → old ≡ Some s)
     → ((s : SetValue) → old ≡ Some s → s.records ≢ []) → ((named && is_some now) ≡ true → IsSettled old now new)
-    → ((named && is_some now) ≡ false → new ≡ unwrap_or (noted old now) old) → IsSettled old now new
+    → ((named && is_some now) ≡ false → new ≡ changed (noted old now) old) → IsSettled old now new
 settled_by true old (Some s) new same filled some none = some refl
 settled_by named None None new same filled some none = inl (none (and-false named), refl)
 settled_by named (Some w) None new same filled some none = inr (none (and-false named), λ e. filled w refl (sym e))
 settled_by false None (Some s) new same filled some none = inl (none refl, ap records_in (sym (same refl s refl)))
 settled_by false (Some w) (Some s) new same filled some none = inl (none refl, ap records_in (sym (same refl s refl)))
 
-module _ (old now added : Option SetValue) (changed : Change) where
-  some_settled : (b : Bool) (first : Change) → SettlesAt b old now None added first changed → b ≡ true
-      → IsSettled old now (added_at added (unwrap_or changed old))
+module _ (old now : Option SetValue) (c : Change) where
+  some_settled : (b : Bool) (first : Change) → SettlesAt b old now first c → b ≡ true
+      → IsSettled old now (changed c old)
   some_settled true first h e = h.0
   some_settled false first h e = absurd cc
 
-  none_settled : (b : Bool) (first : Change) → SettlesAt b old now None added first changed → b ≡ false
-      → added_at added (unwrap_or changed old) ≡ unwrap_or first old
+  none_settled : (b : Bool) (first : Change) → SettlesAt b old now first c → b ≡ false
+      → changed c old ≡ changed first old
   none_settled true first h e = absurd cc
-  none_settled false first h e = λ i. added_at (h.0 i) (unwrap_or (h.1 i) old)
+  none_settled false first h e = ap (λ (x : Change). changed x old) h
 
-  fits_by : (b : Bool) → SettlesAt b old now None added (noted old now) changed → FitsThere added changed old
+  fits_by : (b : Bool) → SettlesAt b old now (noted old now) c → FitsThere c old
   fits_by true h = h.1
-  fits_by false h = subst (λ (p : Option SetValue × Change). FitsThere p.0 p.1 old)
-      (λ i. (sym h.0 i, sym h.1 i)) (record { absent = λ e. absurd cc; there = by old now }) where
-        by : (o n : Option SetValue) → is_some (noted o n) ≡ true → is_some o ≡ true
-        by (Some s) n e = refl
-        by None n e = absurd cc
+  fits_by false h = subst (λ (x : Change). FitsThere x old) (sym h)
+      (record { absent = λ e. absurd (true≢false (sym e)); there = λ e. absurd (true≢false (sym e)) })
 
 kept_by : (old now new : Option SetValue) → IsSettled old now new → records_in new ≡ records_in old → new ≡ old
 kept_by old now new (inl h) same = h.0
@@ -150,10 +146,8 @@ module _ (owner : NameValue) (y z part now : HeldZone) (rs : List (Record RData)
     (new : (q : RrKey) → is_owned owner q ≡ true → HasNothing first q)
     (are : ks ≡ filter (λ k. is_owned owner k) (tree.keys y.sets)) (xs_are : xs ≡ ks) (ws_are : ws ≡ ks)
     (opens : Opens xs z part) (updated : IsUpdated rs part now) (now_is : stood_now ≡ now.sets)
-    (added : mid.added ≡ first.added)
-    (gone : (q : RrKey) → tree.get key_cmp mid.changed q
-    ≡ cond (has_key q ws) (cond (is_some (tree.get key_cmp stood_now q)) (tree.get key_cmp first.changed q) (Some None))
-    (tree.get key_cmp first.changed q)) where
+    (added : mid.added ≡ first.added) (replaced : mid.replaced ≡ first.replaced)
+    (gone : mid.gone.items ≡ first.gone.items ++ filter (λ k. not (is_some (tree.get key_cmp stood_now k))) ws) where
   before : IsZoneMap z.class z.sets
   before = subst (λ (x : HeldZone). IsZoneMap x.class x.sets) is fits
 
@@ -179,27 +173,48 @@ module _ (owner : NameValue) (y z part now : HeldZone) (rs : List (Record RData)
   after = subst (λ (y : HeldZone). IsZoneMap y.class y.sets → IsAfter y.origin y.class rs y.sets now.sets)
       opens.rest updated.holds part_map
 
-  mid_at : (q : RrKey) → is_owned owner q ≡ true → (tree.get key_cmp mid.added q ≡ None)
-      × (tree.get key_cmp mid.changed q ≡ noted (tree.get key_cmp z.sets q) (tree.get key_cmp now.sets q))
-  mid_at q own = (
-    ap (λ (m : BTreeMap RrKey SetValue). tree.get key_cmp m q) added ∙ (new q own).0,
-    gone q ∙ (λ i. cond ((ap (has_key q) ws_are ∙ keys q ∙ ap (λ b. b && is_some (tree.get key_cmp z.sets q)) own) i)
-        (cond (is_some (tree.get key_cmp (now_is i) q)) ((new q own).1 i) (Some None)) ((new q own).1 i)),
-  )
+  -- what is noted to go: sets of the owner that were there, of which none stands now
+  gone_at : (q : RrKey) → has_key q mid.gone.items ≡ (has_key q first.gone.items
+      || (not (is_some (tree.get key_cmp stood_now q)) && (is_owned owner q && is_some (tree.get key_cmp z.sets q))))
+  gone_at q = ap (has_key q) gone ∙ list_any-append (λ k. eq_by_cmp key_cmp k q) first.gone.items _
+      ∙ ap (λ b. has_key q first.gone.items || b)
+      (any-filter_same (λ k. eq_by_cmp key_cmp k q) (λ k. not (is_some (tree.get key_cmp stood_now k)))
+      (not (is_some (tree.get key_cmp stood_now q)))
+      (λ k e. ap (λ x. not (is_some (tree.get key_cmp stood_now x))) (same_key k q e)) ws
+      ∙ ap (λ b. not (is_some (tree.get key_cmp stood_now q)) && b) (ap (has_key q) ws_are ∙ keys q))
+
+  mid_at : (q : RrKey) → is_owned owner q ≡ true
+      → change_at mid q ≡ noted (tree.get key_cmp z.sets q) (tree.get key_cmp now.sets q)
+  mid_at q own i = record {
+    added = (ap (λ v. found v.items q) added ∙ ap (λ (c : Change). c.added) (new q own)) i;
+    replaced = (ap (λ v. found v.items q) replaced ∙ ap (λ (c : Change). c.replaced) (new q own)) i;
+    is_gone = (gone_at q ∙ (λ i. (new q own i).is_gone
+        || (not (is_some (tree.get key_cmp (now_is i) q)) && (own i && is_some (tree.get key_cmp z.sets q))))
+        ∙ and_comm (not (is_some (tree.get key_cmp now.sets q))) (is_some (tree.get key_cmp z.sets q))) i;
+  }
+
+  mid_beside : (q : RrKey) → is_owned owner q ≡ false → change_at mid q ≡ change_at first q
+  mid_beside q free i = record {
+    added = found (added i).items q;
+    replaced = found (replaced i).items q;
+    is_gone = (gone_at q
+        ∙ ap (λ b. has_key q first.gone.items || (not (is_some (tree.get key_cmp stood_now q)) && (b
+        && is_some (tree.get key_cmp z.sets q)))) free
+        ∙ ap (λ b. has_key q first.gone.items || b) (and-false (not (is_some (tree.get key_cmp stood_now q))))
+        ∙ or-false (has_key q first.gone.items)) i;
+  }
 
   -- what stands now has nothing in the outcome yet
   pub new_now : (q : RrKey) → is_some (tree.get key_cmp stood_now q) ≡ true → HasNothing mid q
   new_now q stands =
       let h = ap (λ (m : BTreeMap RrKey SetValue). is_some (tree.get key_cmp m q)) (sym now_is) ∙ stands in
       let own = owned_now z.origin owner z.class rs z.sets part.sets now.sets names opened after q h in
-      let at = mid_at q own in (
-        at.0,
-        at.1 ∙ ap (λ b. cond (is_some (tree.get key_cmp z.sets q)) (cond b None (Some None)) None) h
-            ∙ none (is_some (tree.get key_cmp z.sets q)),
-      ) where
-        none : (b : Bool) → ◌≡◌ {A = Change} (cond b None None) None
-        none true = refl
-        none false = refl
+      mid_at q own ∙ (λ i. record {
+        added = None;
+        replaced = None;
+        is_gone = (ap (λ b. is_some (tree.get key_cmp z.sets q) && not b) h
+            ∙ and-false (is_some (tree.get key_cmp z.sets q))) i;
+      })
 
   module _ (last : Outcome) (settled_now : Settles rs z.sets stood_now mid last) where
     settles : Settles rs z.sets now.sets mid last
@@ -207,48 +222,38 @@ module _ (owner : NameValue) (y z part now : HeldZone) (rs : List (Record RData)
 
     settles_at : (q : RrKey) → is_owned owner q ≡ true
         → SettlesAt (names_set rs q && is_some (tree.get key_cmp now.sets q))
-        (tree.get key_cmp z.sets q) (tree.get key_cmp now.sets q) None (tree.get key_cmp last.added q)
-        (noted (tree.get key_cmp z.sets q) (tree.get key_cmp now.sets q)) (tree.get key_cmp last.changed q)
-    settles_at q own = subst (λ (p : Option SetValue × Change). SettlesAt
-        (names_set rs q && is_some (tree.get key_cmp now.sets q)) (tree.get key_cmp z.sets q)
-        (tree.get key_cmp now.sets q) p.0 (tree.get key_cmp last.added q) p.1 (tree.get key_cmp last.changed q))
-        (λ i. ((mid_at q own).0 i, (mid_at q own).1 i)) (settles q)
+        (tree.get key_cmp z.sets q) (tree.get key_cmp now.sets q)
+        (noted (tree.get key_cmp z.sets q) (tree.get key_cmp now.sets q)) (change_at last q)
+    settles_at q own = subst (λ (c : Change). SettlesAt (names_set rs q && is_some (tree.get key_cmp now.sets q))
+        (tree.get key_cmp z.sets q) (tree.get key_cmp now.sets q) c (change_at last q)) (mid_at q own) (settles q)
 
     settled : (q : RrKey) → is_owned owner q ≡ true → IsSettled (tree.get key_cmp z.sets q)
-        (tree.get key_cmp now.sets q) (outcome_at last q (tree.get key_cmp z.sets q))
+        (tree.get key_cmp now.sets q) (changed (change_at last q) (tree.get key_cmp z.sets q))
     settled q own = settled_by (names_set rs q) _ _ _
         (λ free. stood z.origin owner z.class rs z.sets part.sets now.sets names opened after q free own)
-        (λ s e. (before q s e).filled) (λ e. some_settled _ _ _ _ _ _ (settles_at q own) e)
-        (λ e. none_settled _ _ _ _ _ _ (settles_at q own) e)
+        (λ s e. (before q s e).filled) (λ e. some_settled _ _ _ _ _ (settles_at q own) e)
+        (λ e. none_settled _ _ _ _ _ (settles_at q own) e)
 
     pub updates_owner : UpdatesOwner owner rs z first last
     updates_owner = record {
       own = λ q own. record {
-        fits = fits_by _ _ _ _ _ (settles_at q own);
+        fits = fits_by _ _ _ _ (settles_at q own);
         left = left_by z.origin owner z.class rs z.sets part.sets now.sets names opened after before q _ own
             (settled q own);
         kept = kept_by _ _ _ (settled q own);
       };
-      others = λ q free.
-          let same = subst (λ b. SettlesAt (b && is_some (tree.get key_cmp now.sets q)) (tree.get key_cmp z.sets q)
-          (tree.get key_cmp now.sets q) (tree.get key_cmp mid.added q) (tree.get key_cmp last.added q)
-          (tree.get key_cmp mid.changed q) (tree.get key_cmp last.changed q))
-          (false_from_ne_true _ (λ e. true≢false (sym (names q (owns_named rs q e)) ∙ free)))
-          (settles q) in (
-            same.0 ∙ ap (λ (m : BTreeMap RrKey SetValue). tree.get key_cmp m q) added,
-            same.1 ∙ gone q ∙ ap (λ b. cond b
-                (cond (is_some (tree.get key_cmp stood_now q)) (tree.get key_cmp first.changed q) (Some None))
-                (tree.get key_cmp first.changed q)) (ap (has_key q) ws_are ∙ keys q
-                ∙ ap (λ b. b && is_some (tree.get key_cmp z.sets q)) free),
-          );
+      others = λ q free. subst (λ b. SettlesAt (b && is_some (tree.get key_cmp now.sets q)) (tree.get key_cmp z.sets q)
+          (tree.get key_cmp now.sets q) (change_at mid q) (change_at last q))
+          (false_from_ne_true _ (λ e. true≢false (sym (names q (owns_named rs q e)) ∙ free))) (settles q)
+          ∙ mid_beside q free;
     }
 
 -- ---- all owners, one after the other
 
 -- what is left under a key of an owner whose updates are these
-pub leaves_own : (z : HeldZone) (rs us : List (Record RData)) (q : RrKey) (added : Option SetValue) (changed : Change)
-    → us ≡ own_updates q rs → Leaves us z q added changed → Leaves rs z q added changed
-leaves_own z rs us q added changed e h = record {
+leaves_own : (z : HeldZone) (rs us : List (Record RData)) (q : RrKey) (c : Change) → us ≡ own_updates q rs
+    → Leaves us z q c → Leaves rs z q c
+leaves_own z rs us q c e h = record {
   fits = h.fits;
   left = record {
     fits = h.left.fits;
@@ -263,127 +268,145 @@ leaves_own z rs us q added changed e h = record {
   from (inr h) = inr (own_named q rs (ap (λ vs. names_set vs q) (sym e) ∙ h.0), h.1)
 
 -- where no update names the owner
-pub leaves_none : (z : HeldZone) (q : RrKey) (added : Option SetValue) (changed : Change) → IsZoneMap z.class z.sets
-    → added ≡ None → changed ≡ None → Leaves [] z q added changed
-leaves_none z q added changed before a c = subst (λ (p : Option SetValue × Change). Leaves [] z q p.0 p.1)
-    (λ i. (sym a i, sym c i)) (record {
-      fits = record { absent = λ e. absurd cc; there = λ e. absurd cc };
-      left = record { fits = before q; exact = refl; source = λ s e. inl e };
-      kept = λ e. refl;
-    })
+leaves_none : (z : HeldZone) (q : RrKey) (c : Change) → IsZoneMap z.class z.sets → c ≡ no_change → Leaves [] z q c
+leaves_none z q c before e = subst (λ (x : Change). Leaves [] z q x) (sym e) (record {
+  fits = record { absent = λ e. absurd (true≢false (sym e)); there = λ e. absurd (true≢false (sym e)) };
+  left = record { fits = before q; exact = refl; source = λ s e. inl e };
+  kept = λ e. refl;
+})
 
--- Under a key: the updates of its owner are still to be carried out, or the outcome has what they leave.
-abbrev pub IsGatheredAt : {A : Type 0} → List (Record RData) → HeldZone → RrKey
-    → Option (Vec (Bor (Record RData)) A) → Option SetValue → Change → Type 0
-IsGatheredAt rs z q (Some us) added changed = (each us.items ≡ own_updates q rs) × (added ≡ None) × (changed ≡ None)
-IsGatheredAt rs z q None added changed = Leaves rs z q added changed
+positive : (n : ℕ) → 0 < 1 + n
+positive n = omega arith
 
--- the updates of each owner
-abbrev Owners : Type 0 → Type 0
-Owners A = BTreeMap NameValue (Vec (Bor (Record RData)) A)
+some_first : {A : Type 0} (x : A) (xs : List A) → x ∷ xs ≡ [] → ⊥
+some_first x xs e = absurd cc
 
-module _ {A : Type 0} (rs : List (Record RData)) (z : HeldZone) where
+-- Under a key, by what is left of the updates of its owner: they are still to be carried out, or the outcome has what
+-- they leave.
+abbrev pub IsGatheredAt : List (Record RData) → HeldZone → RrKey → List (Record RData) → Change → Type 0
+IsGatheredAt rs z q left c = ((left ≡ own_updates q rs) × (c ≡ no_change)) ⊎ ((left ≡ []) × Leaves rs z q c)
+
+module _ (rs : List (Record RData)) (z : HeldZone) where
   -- the same under each key
-  abbrev pub IsGathered : Owners A → Outcome → Type 0
-  IsGathered owners o = (q : RrKey) → IsGatheredAt rs z q (tree.get lower_cmp owners q.name)
-      (tree.get key_cmp o.added q) (tree.get key_cmp o.changed q)
+  abbrev pub IsGathered : List (Bor (Record RData)) → Outcome → Type 0
+  IsGathered rest o = (q : RrKey) → IsGatheredAt rs z q (own_updates q (each rest)) (change_at o q)
 
-  pub gathered_first : (owners : Owners A) (o : Outcome) → IsZoneMap z.class z.sets
-      → ((q : RrKey) → updates_of (tree.get lower_cmp owners q.name) ≡ own_updates q rs)
-      → ((q : RrKey) → HasNothing o q) → IsGathered owners o
-  gathered_first owners o before all nothing q = by (tree.get lower_cmp owners q.name) (all q) where
-    by : (us : Option (Vec (Bor (Record RData)) A)) → updates_of us ≡ own_updates q rs
-        → IsGatheredAt rs z q us (tree.get key_cmp o.added q) (tree.get key_cmp o.changed q)
-    by (Some us) e = (e, (nothing q).0, (nothing q).1)
-    by None e = leaves_own z rs [] q _ _ e (leaves_none z q _ _ before (nothing q).0 (nothing q).1)
+  pub gathered_first : (rest : List (Bor (Record RData))) (o : Outcome)
+      → ((q : RrKey) → own_updates q (each rest) ≡ own_updates q rs) → ((q : RrKey) → HasNothing o q)
+      → IsGathered rest o
+  gathered_first rest o all nothing q = inl (all q, nothing q)
 
   -- one owner more
-  module _ (n : NameValue) (low : lowered n ≡ n) (us : Vec (Bor (Record RData)) A) (owners less : Owners A)
-      (o : Outcome) (h : IsGathered owners o) (there : tree.get lower_cmp owners n ≡ Some us) where
-    own_name : (q : RrKey) → is_owned n q ≡ true → n ≡ q.name
-    own_name q own = lower_cmp-exact n q.name (equal_of (lower_cmp n q.name)
-        (ap (λ m. is_eq (lower_cmp m q.name)) (sym low) ∙ sym (owned_is n q) ∙ own))
+  module _ (first : Bor (Record RData)) (more rest : List (Bor (Record RData))) (is : rest ≡ first ∷ more)
+      (o : Outcome) (up : Ascends rest) (h : IsGathered rest o) where
+    abbrev n : NameValue
+    n = first.now.name
 
-    gathered_own : (q : RrKey) → is_owned n q ≡ true
-        → IsGatheredAt rs z q (Some us) (tree.get key_cmp o.added q) (tree.get key_cmp o.changed q)
-    gathered_own q own = subst (λ x. IsGatheredAt rs z q x (tree.get key_cmp o.added q) (tree.get key_cmp o.changed q))
-        (ap (tree.get lower_cmp owners) (sym (own_name q own)) ∙ there) (h q)
+    abbrev k : ℕ
+    k = prefix_len (of_run n) rest
+
+    abbrev own : List (Record RData)
+    own = each (take k rest)
+
+    front : IsRun n rest k
+    front = run n rest up (subst (Starts n) (sym is) (irreflexive n))
+
+    here : (q : RrKey) → is_owned n q ≡ true → own_updates q (each rest) ≡ own
+    here q e = own_is n q e rest ∙ front.0
+
+    itself : (q : RrKey) → is_owned n q ≡ true → own ≡ [] → ⊥
+    itself q e none = some_first first.now (own_updates q (each more))
+        (sym (ap (λ us. own_updates q (each us)) is ∙ cond-true _ _ _ e) ∙ here q e ∙ none)
+
+    gathered_own : (q : RrKey) → is_owned n q ≡ true → (own ≡ own_updates q rs) × HasNothing o q
+    gathered_own q e = by (h q) where
+      by : IsGatheredAt rs z q (own_updates q (each rest)) (change_at o q) → (own ≡ own_updates q rs) × HasNothing o q
+      by (inl h) = (sym (here q e) ∙ h.0, h.1)
+      by (inr h) = absurd (itself q e (sym (here q e) ∙ h.0))
 
     pub gathered_new : (q : RrKey) → is_owned n q ≡ true → HasNothing o q
-    gathered_new q own = ((gathered_own q own).1, (gathered_own q own).2)
+    gathered_new q e = (gathered_own q e).1
 
-    pub gathered_names : (q : RrKey) → names_owner (each us.items) q ≡ true → is_owned n q ≡ true
+    pub gathered_names : (q : RrKey) → names_owner own q ≡ true → is_owned n q ≡ true
     gathered_names q named =
-        let first : RrKey = record { name = n; record_type = types.ZERO } in
-        let own : is_owned n first ≡ true = ap (λ m. same_lower m n) low ∙ (same_by-equiv exact).refl n in
-        ap (λ m. same_lower m q.name) low ∙ own_beside first rs q
-        (ap (λ vs. names_owner vs q) (sym (gathered_own first own).0) ∙ named)
+        let least : RrKey = record { name = lowered n; record_type = types.ZERO } in
+        own_beside least (each rest) q (ap (λ us. names_owner us q)
+        (here least ((same_by-equiv exact).refl (lowered n)))
+        ∙ named)
 
-    pub gathered_next : (next : Outcome) → UpdatesOwner n (each us.items) z o next
-        → ((m : NameValue) → tree.get lower_cmp less m
-        ≡ cond (eq_by_cmp lower_cmp n m) None (tree.get lower_cmp owners m)) → IsGathered less next
-    gathered_next next done out q = by (is_owned n q) refl where
-      less_is : (b : Bool) → is_owned n q ≡ b
-          → tree.get lower_cmp less q.name ≡ cond b None (tree.get lower_cmp owners q.name)
-      less_is b e = out q.name ∙ ap (λ c. cond c None (tree.get lower_cmp owners q.name))
-          (ap (λ m. is_eq (lower_cmp m q.name)) (sym low) ∙ sym (owned_is n q) ∙ e)
+    pub gathered_next : (next : Outcome) → UpdatesOwner n own z o next → IsGathered (drop k rest) next
+    gathered_next next done q = by (is_owned n q) refl where
+      by : (b : Bool) → is_owned n q ≡ b
+          → IsGatheredAt rs z q (own_updates q (each (drop k rest))) (change_at next q)
+      by true e = inr (
+        own_is n q e (drop k rest) ∙ front.1,
+        leaves_own z rs own q _ (gathered_own q e).0 (done.own q e),
+      )
+      by false e = subst (λ (p : List (Record RData) × Change). IsGatheredAt rs z q p.0 p.1)
+          (λ i. (sym (beside n q e rest) i, sym (done.others q e) i)) (h q)
 
-      by : (b : Bool) → is_owned n q ≡ b → IsGatheredAt rs z q (tree.get lower_cmp less q.name)
-          (tree.get key_cmp next.added q) (tree.get key_cmp next.changed q)
-      by true e = subst (λ x. IsGatheredAt rs z q x (tree.get key_cmp next.added q) (tree.get key_cmp next.changed q))
-          (sym (less_is true e)) (leaves_own z rs (each us.items) q _ _ (gathered_own q e).0 (done.own q e))
-      by false e = subst (λ (p : Option (Vec (Bor (Record RData)) A) × Option SetValue × Change).
-          IsGatheredAt rs z q p.0 p.1 p.2)
-          (λ i. (sym (less_is false e) i, sym (done.others q e).0 i, sym (done.others q e).1 i)) (h q)
+    pub ascends_next : Ascends (drop k rest)
+    ascends_next = front.2
 
-  pub gathered_last : (owners : Owners A) (o : Outcome) → (0 < length owners.entries → false ≡ true)
-      → IsGathered owners o → UpdatesTo rs z o
-  gathered_last owners o none h q = subst (λ x. IsGatheredAt rs z q x
-      (tree.get key_cmp o.added q) (tree.get key_cmp o.changed q))
-      (ap (lookup (is_at (lower_cmp q.name))) (emptied owners.entries none)) (h q)
+    pub some_here : 0 < k
+    some_here = subst (λ us. 0 < prefix_len (of_run n) us) (sym is)
+        (subst (λ b. 0 < cond b (1 + prefix_len (of_run n) more) 0) (sym ((same_by-equiv folded).refl n)) (positive _))
 
--- one update more is among its owner's
-module _ {A : Type 0} (rs : List (Record RData)) (r : Record RData) (all : List (Record RData))
-    (grown : rs ++ r ∷ [] ≡ all) (owners more : Owners A)
-    (h : (q : RrKey) → updates_of (tree.get lower_cmp owners q.name) ≡ own_updates q rs) where
-  grouped_next : (us : Vec (Bor (Record RData)) A)
-      → each us.items ≡ updates_of (tree.get lower_cmp owners (lowered r.name)) ++ r ∷ []
-      → ((m : NameValue) → tree.get lower_cmp more m
-      ≡ cond (eq_by_cmp lower_cmp (lowered r.name) m) (Some us) (tree.get lower_cmp owners m))
-      → (q : RrKey) → updates_of (tree.get lower_cmp more q.name) ≡ own_updates q all
-  grouped_next us items puts q = by (is_owned r.name q) refl
-      ∙ sym (filter-append (λ (x : Record RData). is_owned x.name q) rs (r ∷ [])) ∙ ap (own_updates q) grown where
-        more_is : (b : Bool) → is_owned r.name q ≡ b
-            → tree.get lower_cmp more q.name ≡ cond b (Some us) (tree.get lower_cmp owners q.name)
-        more_is b e = puts q.name ∙ ap (λ c. cond c (Some us) (tree.get lower_cmp owners q.name))
-            (sym (owned_is r.name q) ∙ e)
+  -- the updates of one owner, from a place on
+  module _ (xs all : List (Bor (Record RData))) (done count : ℕ) (d : Bor (Record RData)) (o : Outcome)
+      (same : all ≡ xs) (here : done < length xs) (up : Ascends (drop done xs)) (h : IsGathered (drop done xs) o) where
+    abbrev part : List (Bor (Record RData))
+    part = take (length all - done) (drop done all)
 
-        by : (b : Bool) → is_owned r.name q ≡ b
-            → updates_of (tree.get lower_cmp more q.name) ≡ own_updates q rs ++ own_updates q (r ∷ [])
-        by true e = ap updates_of (more_is true e) ∙ items
-            ∙ ap (λ m. updates_of (tree.get lower_cmp owners m) ++ r ∷ []) (same_lower-exact (lowered r.name) q.name e)
-            ∙ ap (λ us. us ++ r ∷ []) (h q) ∙ ap (λ b. own_updates q rs ++ cond b (r ∷ []) []) (sym e)
-        by false e = ap updates_of (more_is false e) ∙ h q ∙ sym (append-nil (own_updates q rs))
-            ∙ ap (λ b. own_updates q rs ++ cond b (r ∷ []) []) (sym e)
+    abbrev at : Bor (Record RData)
+    at = get_or part 0 d
 
-  -- beside others
-  pub grouped_beside : (was us : Vec (Bor (Record RData)) A) (x : Bor (Record RData)) → x.now ≡ r
-      → us.items ≡ was.items ++ x ∷ [] → tree.get lower_cmp owners (lowered r.name) ≡ Some was
-      → ((m : NameValue) → tree.get lower_cmp more m
-      ≡ cond (eq_by_cmp lower_cmp (lowered r.name) m) (Some us) (tree.get lower_cmp owners m))
-      → (q : RrKey) → updates_of (tree.get lower_cmp more q.name) ≡ own_updates q all
-  grouped_beside was us x is pushed there puts = grouped_next us (ap each pushed
-      ∙ map-append (λ (y : Bor (Record RData)). y.now) was.items (x ∷ []) ∙ ap (λ y. each was.items ++ y ∷ []) is
-      ∙ ap (λ o. updates_of o ++ r ∷ []) (sym there)) puts
+    part_is : part ≡ drop done xs
+    part_is = take_all (length all - done) (drop done all) (omega (arith, length-drop done all)) ∙ ap (drop done) same
 
-  -- as the first
-  pub grouped_first : (was us : Vec (Bor (Record RData)) A) (x : Bor (Record RData)) → x.now ≡ r → was.items ≡ []
-      → us.items ≡ was.items ++ x ∷ [] → tree.get lower_cmp owners (lowered r.name) ≡ None
-      → ((m : NameValue) → tree.get lower_cmp more m
-      ≡ cond (eq_by_cmp lower_cmp (lowered r.name) m) (Some us) (tree.get lower_cmp owners m))
-      → (q : RrKey) → updates_of (tree.get lower_cmp more q.name) ≡ own_updates q all
-  grouped_first was us x is new pushed none puts = grouped_next us (ap each pushed
-      ∙ ap (λ xs. each (xs ++ x ∷ [])) new ∙ ap (λ y. y ∷ []) is ∙ ap (λ o. updates_of o ++ r ∷ []) (sym none)) puts
+    part_len : length part ≡ length xs - done
+    part_len = ap length part_is ∙ length-drop done xs
+
+    head : part ≡ at ∷ drop (0 + 1) part
+    head = drop_more part 0 d (omega (arith, part_len, here))
+
+    up_here : Ascends part
+    up_here = subst Ascends (sym part_is) up
+
+    h_here : IsGathered part o
+    h_here = subst (λ us. IsGathered us o) (sym part_is) h
+
+    module _ (counted : count ≡ prefix_len (of_run at.now.name) part) where
+      pub step_names : (q : RrKey) → names_owner (each (take count part)) q ≡ true → is_owned at.now.name q ≡ true
+      step_names q e = gathered_names at (drop (0 + 1) part) part head o up_here h_here q
+          (ap (λ k. names_owner (each (take k part)) q) (sym counted) ∙ e)
+
+      pub step_new : (q : RrKey) → is_owned at.now.name q ≡ true → HasNothing o q
+      step_new q e = gathered_new at (drop (0 + 1) part) part head o up_here h_here q e
+
+      pub step_next : (next : Outcome) → UpdatesOwner at.now.name (each (take count part)) z o next
+          → (done + count ≤ length xs) × Ascends (drop (done + count) xs) × IsGathered (drop (done + count) xs) next
+      step_next next did =
+          let drops : drop (prefix_len (of_run at.now.name) part) part ≡ drop (done + count) xs =
+          ap (drop (prefix_len (of_run at.now.name) part)) part_is
+          ∙ drop-drop (prefix_len (of_run at.now.name) part) done xs ∙ ap (λ k. drop (done + k) xs) (sym counted) in (
+            omega (arith, counted, prefix_len-le-length (of_run at.now.name) part, part_len, here),
+            subst Ascends drops (ascends_next at (drop (0 + 1) part) part head o up_here h_here),
+            subst (λ us. IsGathered us next) drops
+                (gathered_next at (drop (0 + 1) part) part head o up_here h_here next
+                (subst (λ k. UpdatesOwner at.now.name (each (take k part)) z o next) counted did)),
+          )
+
+      pub step_smaller : length xs - (done + count) < length xs - done
+      step_smaller = omega (arith, counted, some_here at (drop (0 + 1) part) part head o up_here h_here, here)
+
+  pub gathered_last : (rest : List (Bor (Record RData))) (o : Outcome) → IsZoneMap z.class z.sets → rest ≡ []
+      → IsGathered rest o → UpdatesTo rs z o
+  gathered_last rest o before none h q = by (h q) where
+    by : IsGatheredAt rs z q (own_updates q (each rest)) (change_at o q) → Leaves rs z q (change_at o q)
+    by (inl h) = leaves_own z rs [] q _ (sym (ap (λ us. own_updates q (each us)) none) ∙ h.0)
+        (leaves_none z q _ before h.1)
+    by (inr h) = h.1
 
 -- ---- an outcome that is put into the map
 

@@ -1,25 +1,26 @@
 //! The last step: updates are carried out beside the zone (RFC 2136, 3.4.2), and what they make of it is found.
 
 ghost use Rattle.base.specs.RrKey.{key_cmp};
-ghost use Rattle.base.specs.names.NameOrder.{lower_cmp};
+ghost use Rattle.base.specs.names.NameOrder.{name_cmp, same_name};
 ghost use Rattle.base.specs.declared.rr_key.RrKey.{RrKey as Key};
 ghost use Rattle.base_data.specs.declared.rdata.RData.{RData};
 ghost use Rattle.op_use.specs.Applying.{IsZoneMap, names_owner};
-ghost use Rattle.op_use.specs.MapUpdates.{has_key};
-ghost use Rattle.op_use.specs.Outcome.{HasNothing, Settles, UpdatesOwner, UpdatesTo, each, updates_of};
+ghost use Rattle.op_use.specs.Outcome.{HasNothing, IsSortedByOwner, Settles, UpdatesOwner, UpdatesTo, each};
 ghost use Rattle.op_use.specs.Zone.{is_owned};
 ghost use Rattle.rr.specs.declared.record.Record.{Record as Entry};
 ghost use Rattle.std.specs.BTreeMap.{get};
-ghost use Rattle.std.specs.List.{filter};
-ghost use Rattle.std.specs.Prelude.{IfOk, IsTrue, None, OnOk, Some, cond, is_some, true, ◌↔◌, ◌≡◌};
+ghost use Rattle.std.specs.Borrow.{Bor};
+ghost use Rattle.std.specs.List.{filter, prefix_len};
+ghost use Rattle.std.specs.Prelude.{IfOk, IsTrue, OnOk, is_some, not, true, ◌++◌, ◌↔◌, ◌≡◌};
 
 use crate::apply::changing_zone::ChangingZone;
 use crate::apply::current_set::CurrentSet;
 use crate::apply::outcome::Outcome;
 use crate::apply::zone::{Zone, key_of, keys_of};
-use base::{LowerName, Name, RrKey};
+use base::{Name, RrKey};
 use rr::{Record, RecordSet};
 use std::alloc::{AllocError, Global};
+use std::cmp::Ordering;
 use std::collections::BTreeMap;
 
 impl<'a> Zone<'a> {
@@ -30,13 +31,19 @@ impl<'a> Zone<'a> {
         ensures { IfOk result (λ o. UpdatesTo entries.now self.now o) }
     {
         let alloc = self.origin.allocator();
-        let mut owners = by_owner(alloc, entries)?;
+        let sorted = by_owner(alloc, entries)?;
         let mut outcome = Outcome {
-            added: BTreeMap::new(alloc),
-            changed: BTreeMap::new(alloc),
+            added: Vec::new(alloc),
+            replaced: Vec::new(alloc),
+            gone: Vec::new(alloc),
         };
-        while let Some((owner, entries)) = owners.pop_first() {
-            self.update_owner(owner.as_name(), entries.as_slice(), &mut outcome)?;
+        let mut done = 0;
+        while done < sorted.len() {
+            let rest = &sorted[done..];
+            let owner = &rest[0].name;
+            let count = count_of_owner(owner, rest);
+            self.update_owner(owner, &rest[..count], &mut outcome)?;
+            done += count;
         }
         Ok(outcome)
     }
@@ -56,7 +63,7 @@ impl<'a> Zone<'a> {
         let mut part = ChangingZone::open(self, keys.as_slice())?;
         part.update(entries)?;
         let sets = part.into_sets();
-        mark_gone(keys.as_slice(), &sets, &mut outcome.changed)?;
+        mark_gone(keys.as_slice(), &sets, &mut outcome.gone)?;
         self.settle(sets, entries, outcome)
     }
 
@@ -80,55 +87,67 @@ impl<'a> Zone<'a> {
             };
             let set = set.close()?;
             let Some(was) = self.sets.get(&key) else {
-                outcome.added.insert(key, set)?;
+                outcome.added.push((key, set))?;
                 continue;
             };
             if are_same(was.as_slice(), set.as_slice()) {
                 continue;
             }
-            outcome.changed.insert(key, Some(set))?;
+            outcome.replaced.push((key, set))?;
         }
         Ok(())
     }
 }
 
-/// The updates of each owner, in their order.
-fn by_owner(
-    alloc: Global,
-    entries: &[Record],
-) -> Result<BTreeMap<LowerName, Vec<&Record>>, AllocError>
-    ensures { IfOk result (λ owners. (q : Key) → updates_of (get lower_cmp owners q.name)
+/// The updates in the order of their owners, those of one owner in their own order.
+fn by_owner(alloc: Global, entries: &[Record]) -> Result<Vec<&Record>, AllocError>
+    ensures sorted { IfOk result (λ es. IsSortedByOwner es.items) }
+    ensures same { IfOk result (λ es. (q : Key)
+        → filter (λ (r : Entry RData). is_owned r.name q) (each es.items)
         ≡ filter (λ (r : Entry RData). is_owned r.name q) entries.now) }
 {
-    let mut owners: BTreeMap<LowerName, Vec<&Record>> = BTreeMap::new(alloc);
+    let mut sorted = Vec::new(alloc);
     for entry in entries {
-        let owner = LowerName::new(alloc, &entry.name).map_err(|_| AllocError)?;
-        if let Some(updates) = owners.get_mut(&owner) {
-            updates.push(entry)?;
-            continue;
-        }
-        let mut updates = Vec::new(alloc);
-        updates.push(entry)?;
-        owners.insert(owner, updates)?;
+        sorted.push(entry)?;
     }
-    Ok(owners)
+    sorted.sort_by(cmp_owners)?;
+    Ok(sorted)
 }
 
-/// Notes each of these keys under which no set stands now, without a set.
+/// How the owners of two updates compare.
+fn cmp_owners(left: &&Record, right: &&Record) -> Ordering
+    ensures { result ≡ name_cmp left.now.now.name right.now.now.name }
+{
+    left.name.cmp(&right.name)
+}
+
+/// How many updates in front are of an owner.
+fn count_of_owner(owner: &Name, entries: &[&Record]) -> usize
+    ensures { result ≡ prefix_len (λ (r : Bor (Entry RData)). same_name r.now.name owner.now)
+        entries.now }
+{
+    for (place, entry) in entries.iter().enumerate() {
+        if entry.name != *owner {
+            return place;
+        }
+    }
+    entries.len()
+}
+
+/// Notes each of these keys under which no set stands now.
 fn mark_gone(
     keys: &[RrKey],
     now: &BTreeMap<RrKey, CurrentSet<'_>>,
-    changed: &mut BTreeMap<RrKey, Option<RecordSet>>,
+    gone: &mut Vec<RrKey>,
 ) -> Result<(), AllocError>
-    ensures { OnOk result ((q : Key) → get key_cmp changed.new q
-        ≡ cond (has_key q keys.now) (cond (is_some (get key_cmp now.now q))
-        (get key_cmp changed.old q) (Some None)) (get key_cmp changed.old q)) }
+    ensures { OnOk result (gone.new.items ≡ gone.old.items
+        ++ filter (λ (k : Key). not (is_some (get key_cmp now.now k))) keys.now) }
 {
     for key in keys {
         if now.contains_key(key) {
             continue;
         }
-        changed.insert(key.clone()?, None)?;
+        gone.push(key.clone()?)?;
     }
     Ok(())
 }

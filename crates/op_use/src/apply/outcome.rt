@@ -4,9 +4,10 @@ ghost use Rattle.base.specs.RrKey.{key_cmp};
 ghost use Rattle.base.specs.declared.rr_key.RrKey.{RrKey as Key};
 ghost use Rattle.op_use.specs.Applying.{HasSameSets};
 ghost use Rattle.op_use.specs.MapUpdates.{LacksKeys};
-ghost use Rattle.op_use.specs.Outcome.{Installs, IsOutcome, added_at};
-ghost use Rattle.std.specs.BTreeMap.{get, keys};
-ghost use Rattle.std.specs.Prelude.{IfOk, None, OnErr, OnOk, is_some, true, unwrap_or, ◌≡◌};
+ghost use Rattle.op_use.specs.Outcome.{Installs, IsOutcome, added_at, found};
+ghost use Rattle.std.specs.BTreeMap.{get};
+ghost use Rattle.std.specs.Map.{keys_of};
+ghost use Rattle.std.specs.Prelude.{IfOk, IsOk, OnErr, OnOk, false, is_some, true, ◌≡◌};
 
 use base::RrKey;
 use rr::RecordSet;
@@ -17,14 +18,16 @@ use std::collections::BTreeMap;
 #[derive(Drop)]
 pub(crate) struct Outcome {
     /// The sets under keys that the zone doesn't have.
-    pub(super) added: BTreeMap<RrKey, RecordSet>,
-    /// Of keys that it has, the sets that are put there, or none where a set goes.
-    pub(super) changed: BTreeMap<RrKey, Option<RecordSet>>,
+    pub(super) added: Vec<(RrKey, RecordSet)>,
+    /// The sets that are put in the place of others.
+    pub(super) replaced: Vec<(RrKey, RecordSet)>,
+    /// The keys of the sets that go.
+    pub(super) gone: Vec<RrKey>,
 }
 
 impl Outcome {
     /// Puts the sets into the zone. First those under new keys, which may be refused memory, and are then taken out
-    /// again; the others take none.
+    /// again; what follows takes none.
     pub(crate) fn install(
         self,
         alloc: Global,
@@ -34,46 +37,47 @@ impl Outcome {
         ensures ok { OnOk result (Installs self sets.old sets.new) }
         ensures err { OnErr result (HasSameSets sets.old sets.new) }
     {
-        add_all(alloc, sets, self.added)?;
-        change_all(sets, self.changed);
+        let keys = copies_of_keys(alloc, self.added.as_slice())?;
+        let Ok(()) = put_all(sets, self.added) else {
+            remove_all(sets, keys.as_slice());
+            return Err(AllocError);
+        };
+        put_all(sets, self.replaced)?;
+        remove_all(sets, self.gone.as_slice());
         Ok(())
     }
 }
 
-/// Puts sets under new keys. Where one is refused memory, all are taken out again.
-fn add_all(
-    alloc: Global,
-    sets: &mut BTreeMap<RrKey, RecordSet>,
-    mut added: BTreeMap<RrKey, RecordSet>,
-) -> Result<(), AllocError>
-    requires { (q : Key) → is_some (get key_cmp added q) ≡ true → get key_cmp sets.old q ≡ None }
-    ensures ok { OnOk result ((q : Key) → get key_cmp sets.new q
-        ≡ added_at (get key_cmp added q) (get key_cmp sets.old q)) }
-    ensures err { OnErr result (HasSameSets sets.old sets.new) }
-{
-    let keys = copies_of_keys(alloc, &added)?;
-    while let Some((key, set)) = added.pop_first() {
-        let Ok(_) = sets.insert(key, set) else {
-            remove_all(sets, keys.as_slice());
-            return Err(AllocError);
-        };
-    }
-    Ok(())
-}
-
-/// Copies of the keys of a map.
-fn copies_of_keys(
-    alloc: Global,
-    sets: &BTreeMap<RrKey, RecordSet>,
-) -> Result<Vec<RrKey>, AllocError>
-    ensures { IfOk result (λ ks. ks.items ≡ keys sets.now) }
+/// Copies of the keys of sets.
+fn copies_of_keys(alloc: Global, sets: &[(RrKey, RecordSet)]) -> Result<Vec<RrKey>, AllocError>
+    ensures { IfOk result (λ ks. ks.items ≡ keys_of sets.now) }
 {
     let mut copies = Vec::new(alloc);
-    for (key, _) in sets.iter() {
+    for (key, _) in sets {
         let copy = key.clone()?;
         copies.push(copy)?;
     }
     Ok(copies)
+}
+
+/// Puts sets under their keys. Takes no memory for keys that are there.
+fn put_all(
+    sets: &mut BTreeMap<RrKey, RecordSet>,
+    mut put: Vec<(RrKey, RecordSet)>,
+) -> Result<(), AllocError>
+    ensures ok { OnOk result ((q : Key) → get key_cmp sets.new q
+        ≡ added_at (found put.items q) (get key_cmp sets.old q)) }
+    ensures err { OnErr result ((q : Key) → is_some (found put.items q) ≡ false
+        → get key_cmp sets.new q ≡ get key_cmp sets.old q) }
+    ensures succeeds { ((q : Key) → is_some (found put.items q) ≡ true
+        → is_some (get key_cmp sets.old q) ≡ true) → IsOk result }
+{
+    while let Some((key, set)) = put.pop() {
+        let Ok(_) = sets.insert(key, set) else {
+            return Err(AllocError);
+        };
+    }
+    Ok(())
 }
 
 /// Takes the sets under keys out.
@@ -82,27 +86,5 @@ fn remove_all(sets: &mut BTreeMap<RrKey, RecordSet>, keys: &[RrKey])
 {
     for key in keys {
         sets.remove(key);
-    }
-}
-
-/// Puts sets in the place of others, or takes those out. Takes no memory.
-fn change_all(
-    sets: &mut BTreeMap<RrKey, RecordSet>,
-    mut changed: BTreeMap<RrKey, Option<RecordSet>>,
-)
-    requires { (q : Key) → is_some (get key_cmp changed q) ≡ true
-        → is_some (get key_cmp sets.old q) ≡ true }
-    ensures { (q : Key) → get key_cmp sets.new q
-        ≡ unwrap_or (get key_cmp changed q) (get key_cmp sets.old q) }
-{
-    while let Some((key, change)) = changed.pop_first() {
-        let Some(set) = change else {
-            sets.remove(&key);
-            continue;
-        };
-        let Some(place) = sets.get_mut(&key) else {
-            continue;
-        };
-        *place = set;
     }
 }

@@ -1,53 +1,58 @@
-use Rattle.base.specs.names.NameOrder.{lowered}
-use Rattle.op_use.proofs.KeySets.{none_in}
-use Rattle.op_use.proofs.OutcomeSteps.{gathered_first, gathered_last, gathered_names, gathered_new, gathered_next}
+use Rattle.op_use.proofs.OutcomeSteps.{gathered_first, gathered_last, step_names, step_new, step_next, step_smaller}
+use Rattle.op_use.proofs.OwnerRuns.{ascending}
 use Rattle.op_use.proofs.apply.zone.Zone.outcome.Goals as goal
-use Rattle.base.specs.names.Labels.{NameValue}
-use Rattle.base_data.specs.declared.rdata.RData.{RData}
-use Rattle.op_use.specs.Applying.{IsZoneMap, names_owner}
+use Rattle.op_use.specs.Applying.{IsZoneMap}
 use Rattle.op_use.specs.HeldZone.{HeldZone}
-use Rattle.op_use.specs.Outcome.{UpdatesOwner, each}
-use Rattle.op_use.specs.Zone.{is_owned}
-use Rattle.rr.specs.declared.record.Record.{Record}
-use Rattle.std.proofs.Common.{Bor, List, ap, subst, sym, ◌∙◌, ◌≡◌}
+use Rattle.op_use.specs.MapUpdates.{has_key}
+use Rattle.op_use.specs.Outcome.{found}
+use Rattle.std.proofs.Common.{arith, drop, length, subst, ◌<◌, ◌≤◌}
+use Rattle.std.proofs.lemmas.List.{drop_all}
 
-pub loop-owner-init : goal.loop-owner-init
-loop-owner-init c = gathered_first c.args.entries.now c.args.self.now c.in_ok-owners.owners
-    (record { added = c.new.result; changed = c.new-2.result })
-    (subst (λ (y : HeldZone). IsZoneMap y.class y.sets) c.self.view_is c.self.invariant) c.in_ok-owners.ensures
-    (λ q. (none_in c.new.result q c.new.ensures.empty, none_in c.new-2.result q c.new-2.ensures.empty))
+pub loop-done-init : goal.loop-done-init
+loop-done-init c = (
+  omega arith,
+  ascending c.in_ok-sorted.sorted.items c.in_ok-sorted.ensures.sorted,
+  gathered_first c.args.entries.now c.args.self.now c.in_ok-sorted.sorted.items
+      (record { added = c.new.result; replaced = c.new-2.result; gone = c.new-3.result }) c.in_ok-sorted.ensures.same
+      (λ q i. record {
+        added = found (c.new.ensures.items i) q;
+        replaced = found (c.new-2.ensures.items i) q;
+        is_gone = has_key q (c.new-3.ensures.items i);
+      }),
+)
 
 pub update_owner-requires-clause-names : goal.update_owner-requires-clause-names
 update_owner-requires-clause-names c =
-    let n : NameValue = c.in-Some.owner in
-    let low : lowered n ≡ n = ap (λ ls. record n { labels = ls }) c.as_name.ensures.lower in
-    λ q e. ap (λ m. is_owned m q) c.as_name.ensures.value
-    ∙ gathered_names c.args.entries.now c.args.self.now n low c.in-Some.entries c.loop-owner.owners
-    c.pop_first.new.self c.loop-owner.outcome c.loop-owner.invariant c.in-Some.ensures.value q
-    (ap (λ (rs : List (Bor (Record RData))). names_owner (each rs) q) (sym c.as_slice.ensures.value) ∙ e)
+    let here : c.loop-done.done < length c.in_ok-sorted.sorted.items = omega (arith, c.in_ok-sorted.sorted.ok.0) in
+    step_names c.args.entries.now c.args.self.now c.in_ok-sorted.sorted.items c.deref.result.now c.loop-done.done
+    c.count_of_owner-count.result c.index-rest-0.result c.loop-done.outcome c.deref.ensures.value here
+    c.loop-done.invariant.1 c.loop-done.invariant.2 c.count_of_owner-count.ensures
 
 pub update_owner-requires-clause-new : goal.update_owner-requires-clause-new
 update_owner-requires-clause-new c =
-    let n : NameValue = c.in-Some.owner in
-    let low : lowered n ≡ n = ap (λ ls. record n { labels = ls }) c.as_name.ensures.lower in
-    λ q e. gathered_new c.args.entries.now c.args.self.now n low c.in-Some.entries c.loop-owner.owners
-    c.pop_first.new.self c.loop-owner.outcome c.loop-owner.invariant c.in-Some.ensures.value q
-    (ap (λ m. is_owned m q) (sym c.as_name.ensures.value) ∙ e)
+    let here : c.loop-done.done < length c.in_ok-sorted.sorted.items = omega (arith, c.in_ok-sorted.sorted.ok.0) in
+    step_new c.args.entries.now c.args.self.now c.in_ok-sorted.sorted.items c.deref.result.now c.loop-done.done
+    c.count_of_owner-count.result c.index-rest-0.result c.loop-done.outcome c.deref.ensures.value here
+    c.loop-done.invariant.1 c.loop-done.invariant.2 c.count_of_owner-count.ensures
 
-pub loop-owner-preserved : goal.loop-owner-preserved
-loop-owner-preserved c =
-    let n : NameValue = c.in-Some.owner in
-    let low : lowered n ≡ n = ap (λ ls. record n { labels = ls }) c.as_name.ensures.lower in
-    let z = c.args.self.now in
-    let done : UpdatesOwner n (each c.in-Some.entries.items) z c.loop-owner.outcome c.update_owner.new.outcome =
-    subst (λ (m : NameValue). UpdatesOwner m (each c.in-Some.entries.items) z c.loop-owner.outcome
-    c.update_owner.new.outcome) c.as_name.ensures.value
-    (subst (λ (rs : List (Bor (Record RData))). UpdatesOwner c.as_name.result.now (each rs) z c.loop-owner.outcome
-    c.update_owner.new.outcome) c.as_slice.ensures.value c.in_ok-update_owner.ensures) in
-    gathered_next c.args.entries.now z n low c.in-Some.entries c.loop-owner.owners c.pop_first.new.self
-    c.loop-owner.outcome c.loop-owner.invariant c.in-Some.ensures.value c.update_owner.new.outcome done
-    c.in-Some.ensures.updates.0
+pub loop-done-preserved : goal.loop-done-preserved
+loop-done-preserved c =
+    let here : c.loop-done.done < length c.in_ok-sorted.sorted.items = omega (arith, c.in_ok-sorted.sorted.ok.0) in
+    step_next c.args.entries.now c.args.self.now c.in_ok-sorted.sorted.items c.deref.result.now c.loop-done.done
+    c.count_of_owner-count.result c.index-rest-0.result c.loop-done.outcome c.deref.ensures.value here
+    c.loop-done.invariant.1 c.loop-done.invariant.2 c.count_of_owner-count.ensures c.update_owner.new.outcome
+    c.in_ok-update_owner.ensures
+
+pub loop-done-smaller : goal.loop-done-smaller
+loop-done-smaller c =
+    let here : c.loop-done.done < length c.in_ok-sorted.sorted.items = omega (arith, c.in_ok-sorted.sorted.ok.0) in
+    step_smaller c.args.entries.now c.args.self.now c.in_ok-sorted.sorted.items c.deref.result.now c.loop-done.done
+    c.count_of_owner-count.result c.index-rest-0.result c.loop-done.outcome c.deref.ensures.value here
+    c.loop-done.invariant.1 c.loop-done.invariant.2 c.count_of_owner-count.ensures
 
 pub returns : goal.returns
-returns c = gathered_last c.args.entries.now c.args.self.now c.loop-owner.owners c.loop-owner.outcome
-    (λ some. c.in_default.ensures.variant.1 some) c.loop-owner.invariant
+returns c =
+    let done : length c.in_ok-sorted.sorted.items ≤ c.loop-done.done = omega (arith, c.in_ok-sorted.sorted.ok.0) in
+    gathered_last c.args.entries.now c.args.self.now (drop c.loop-done.done c.in_ok-sorted.sorted.items)
+    c.loop-done.outcome (subst (λ (y : HeldZone). IsZoneMap y.class y.sets) c.self.view_is c.self.invariant)
+    (drop_all c.loop-done.done c.in_ok-sorted.sorted.items done) c.loop-done.invariant.2

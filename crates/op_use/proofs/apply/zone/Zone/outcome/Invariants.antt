@@ -1,10 +1,12 @@
 use Rattle.op_use.proofs.OutcomeSteps.{IsGathered}
+use Rattle.op_use.proofs.OwnerRuns.{Ascends}
 use Rattle.op_use.proofs.apply.zone.Zone.outcome.Given as goal
-use Rattle.std.proofs.Common.{length}
+use Rattle.std.proofs.Common.{drop, length, ◌-◌, ◌≤◌}
 
--- the outcome has what all updates leave, but those that are still here
-abbrev pub invariant-loop-owner : goal.invariant-loop-owner
-invariant-loop-owner l = IsGathered l.fn.entries l.self l.owners l.outcome
+-- the outcome has what all updates leave, but those that are still to come
+abbrev pub invariant-loop-done : goal.invariant-loop-done
+invariant-loop-done l = (l.done ≤ length l.sorted.items) × Ascends (drop l.done l.sorted.items)
+    × IsGathered l.entries l.self (drop l.done l.sorted.items) l.outcome
 
-abbrev pub decreases-loop-owner : goal.decreases-loop-owner
-decreases-loop-owner l = length l.owners.entries
+abbrev pub decreases-loop-done : goal.decreases-loop-done
+decreases-loop-done l = length l.sorted.items - l.done

@@ -1,7 +1,7 @@
 use Rattle.base.specs.RrKey.{key_cmp, key_of}
 use Rattle.base_data.specs.declared.rdata.RData.{RData}
 use Rattle.op_use.proofs.KeySets.{one_lent}
-use Rattle.op_use.proofs.SettleSteps.{IsSettling, settling_added, settling_changed, settling_none, settling_same}
+use Rattle.op_use.proofs.SettleSteps.{IsSettling, settling_added, settling_none, settling_replaced, settling_same}
 use Rattle.op_use.proofs.apply.zone.Zone.settle.Goals as goal
 use Rattle.op_use.specs.HeldZone.{HeldZone}
 use Rattle.op_use.specs.Outcome.{each}
@@ -12,7 +12,7 @@ use Rattle.std.proofs.lemmas.List.{take_all}
 use Rattle.std.specs.BTreeMap.{get}
 
 pub loop-entry-init : goal.loop-entry-init
-loop-entry-init c = λ q. (refl, (refl, refl))
+loop-entry-init c = λ q. (refl, refl)
 
 pub loop-entry-preserved-in_default : goal.loop-entry-preserved-in_default
 loop-entry-preserved-in_default c = settling_none _ _ _
@@ -27,9 +27,10 @@ loop-entry-preserved-in_default-get c = settling_added _ _ _
     c.args.self.now.sets c.args.now c.loop-entry.now c.remove.new.self c.args.outcome.now c.loop-entry.outcome
     c.in_ok-key.key (c.in_ok-key.ensures ∙ ap (key_of c.entry-item.result.now.name) c.record_type.ensures)
     c.loop-entry.invariant c.remove.ensures.updates.0 c.requires.new c.in_ok-set.set
-    (sym c.in-Some.ensures.value ∙ ap Some (sym c.in_ok-set.ensures)) c.args.self.now.class c.insert.new.self
-    c.requires.fits (ap (λ (z : HeldZone). get key_cmp z.sets c.in_ok-key.key) (sym c.self.view_is)
-    ∙ sym c.in_default-get.ensures.value) c.in_ok-insert.ensures.updates.0
+    (sym c.in-Some.ensures.value ∙ ap Some (sym c.in_ok-set.ensures)) c.args.self.now.class
+    (record c.loop-entry.outcome { added = c.push.new.self }) c.requires.fits
+    (ap (λ (z : HeldZone). get key_cmp z.sets c.in_ok-key.key) (sym c.self.view_is)
+    ∙ sym c.in_default-get.ensures.value) c.in_ok-push.ensures.items refl refl
 
 pub loop-entry-preserved-then-are_same : goal.loop-entry-preserved-then-are_same
 loop-entry-preserved-then-are_same c = settling_same _ _ _
@@ -42,16 +43,16 @@ loop-entry-preserved-then-are_same c = settling_same _ _ _
     (sym c.as_slice.ensures ∙ c.are_same.ensures.0 c.if-are_same.true ∙ c.as_slice-in-loop-entry.ensures)
 
 pub loop-entry-preserved : goal.loop-entry-preserved
-loop-entry-preserved c = settling_changed _ _ _
+loop-entry-preserved c = settling_replaced _ _ _
     (one_lent c.args.entries.now c.loop-entry.entry-index c.entry-item.result c.loop-entry-test.true c.entry-item.is)
     c.args.self.now.sets c.args.now c.loop-entry.now c.remove.new.self c.args.outcome.now c.loop-entry.outcome
     c.in_ok-key.key (c.in_ok-key.ensures ∙ ap (key_of c.entry-item.result.now.name) c.record_type.ensures)
     c.loop-entry.invariant c.remove.ensures.updates.0 c.requires.new c.in_ok-set.set
     (sym c.in-Some.ensures.value ∙ ap Some (sym c.in_ok-set.ensures)) c.in-Some-get.was.now
-    c.insert-in-loop-entry.new.self
+    (record c.loop-entry.outcome { replaced = c.push-in-loop-entry.new.self })
     (ap (λ (z : HeldZone). get key_cmp z.sets c.in_ok-key.key) (sym c.self.view_is) ∙ sym c.in-Some-get.ensures.value)
     (λ same. true≢false (sym (c.are_same.ensures.1 (c.as_slice.ensures ∙ same ∙ sym c.as_slice-in-loop-entry.ensures))
-    ∙ c.if-are_same.false)) c.in_ok-insert-2.ensures.updates.0
+    ∙ c.if-are_same.false)) refl c.in_ok-push-2.ensures.items refl
 
 pub returns : goal.returns
 returns c = λ q. (subst (λ (rs : List (Record RData)).

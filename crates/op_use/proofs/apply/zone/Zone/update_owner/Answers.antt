@@ -16,16 +16,16 @@ pub settle-requires-clause-new : goal.settle-requires-clause-new
 settle-requires-clause-new c = new_now c.args.owner.now _ c.args.self.now c.in_ok-part.part c.update.new.self
     (each c.args.entries.now) c.in_ok-keys.keys.items c.as_slice.result.now c.as_slice-2.result.now
     c.into_sets-sets.result c.args.outcome.now
-    (record { added = c.args.outcome.now.added; changed = c.mark_gone.new.changed }) c.self.view_is c.self.invariant
+    (record c.args.outcome.now { gone = c.mark_gone.new.gone }) c.self.view_is c.self.invariant
     c.requires.names c.requires.new c.in_ok-keys.ensures c.as_slice.ensures.value c.as_slice-2.ensures.value
-    c.in_ok-part.ensures c.in_ok-update.ensures c.into_sets-sets.ensures.sets refl c.in_ok-mark_gone.ensures
+    c.in_ok-part.ensures c.in_ok-update.ensures c.into_sets-sets.ensures.sets refl refl c.in_ok-mark_gone.ensures
 
 pub returns : goal.returns
 returns c = on_ok_weaker c.settle.result (λ settles.
     updates_owner c.args.owner.now _ c.args.self.now c.in_ok-part.part c.update.new.self
     (each c.args.entries.now) c.in_ok-keys.keys.items c.as_slice.result.now c.as_slice-2.result.now
     c.into_sets-sets.result c.args.outcome.now
-    (record { added = c.args.outcome.now.added; changed = c.mark_gone.new.changed }) c.self.view_is c.self.invariant
+    (record c.args.outcome.now { gone = c.mark_gone.new.gone }) c.self.view_is c.self.invariant
     c.requires.names c.requires.new c.in_ok-keys.ensures c.as_slice.ensures.value c.as_slice-2.ensures.value
-    c.in_ok-part.ensures c.in_ok-update.ensures c.into_sets-sets.ensures.sets refl c.in_ok-mark_gone.ensures
+    c.in_ok-part.ensures c.in_ok-update.ensures c.into_sets-sets.ensures.sets refl refl c.in_ok-mark_gone.ensures
     c.settle.new.outcome settles) c.settle.ensures
