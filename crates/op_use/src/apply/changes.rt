@@ -16,7 +16,7 @@ ghost use Rattle.std.specs.Prelude.{IfOk, IsTrue, OnOk, is_some, not, true, ◌+
 use crate::apply::changing_zone::ChangingZone;
 use crate::apply::current_set::CurrentSet;
 use crate::apply::outcome::Outcome;
-use crate::apply::zone::{Zone, key_of, keys_of};
+use crate::apply::zone::{Zone, keys_of};
 use base::{Name, RrKey};
 use rr::{Record, RecordSet};
 use std::alloc::{AllocError, Global};
@@ -81,7 +81,7 @@ impl<'a> Zone<'a> {
             (Settles (each entries.now) self.now.sets now.entry outcome.old outcome.new) }
     {
         for entry in entries {
-            let key = key_of(&entry.name, entry.record_type())?;
+            let key = RrKey::of(&entry.name, entry.record_type())?;
             let Some(set) = now.remove(&key) else {
                 continue;
             };

@@ -9,7 +9,7 @@ ghost use Rattle.rr.specs.SetUpdates.{without};
 ghost use Rattle.std.specs.Prelude.{IfOk, OnOk, [], length, ◌∷◌, ◌≡◌};
 
 use crate::apply::current_set::CurrentSet;
-use crate::apply::zone::{Zone, key_of};
+use crate::apply::zone::Zone;
 use base::{DNSClass, Name, RrKey};
 use rr::Record;
 use std::alloc::{AllocError, Global};
@@ -86,7 +86,7 @@ impl<'a> ChangingZone<'a> {
             (without (entry.now ∷ []) (records_at self.old.sets (record_key entry.now)))
             self.old self.new) }
     {
-        let key = key_of(&entry.name, entry.record_type())?;
+        let key = RrKey::of(&entry.name, entry.record_type())?;
         let Some(set) = self.sets.remove(&key) else {
             return Ok(());
         };

@@ -8,8 +8,8 @@ ghost use Rattle.std.specs.Prelude.{IfOk, OnOk, [], ◌∷◌, ◌≡◌};
 
 use crate::apply::changing_zone::ChangingZone;
 use crate::apply::rules::{Use, is_guarded, use_of};
-use crate::apply::zone::{has_type, key_of, keys_of};
-use base::RecordType;
+use crate::apply::zone::{has_type, keys_of};
+use base::{RecordType, RrKey};
 use rr::Record;
 use std::alloc::AllocError;
 
@@ -44,15 +44,15 @@ impl<'a> ChangingZone<'a> {
                 return Ok(());
             }
             // The owner has one CNAME at most.
-            let key = key_of(&entry.name, entry.record_type())?;
+            let key = RrKey::of(&entry.name, entry.record_type())?;
             self.remove(&key);
             return self.add_record(key, entry);
         }
-        let cname = key_of(&entry.name, RecordType::CNAME)?;
+        let cname = RrKey::of(&entry.name, RecordType::CNAME)?;
         if self.sets.contains_key(&cname) {
             return Ok(());
         }
-        let key = key_of(&entry.name, entry.record_type())?;
+        let key = RrKey::of(&entry.name, entry.record_type())?;
         self.add_record(key, entry)
     }
 
@@ -74,7 +74,7 @@ impl<'a> ChangingZone<'a> {
         if is_guarded(self.origin, &entry.name, entry.record_type()) {
             return Ok(());
         }
-        let key = key_of(&entry.name, entry.record_type())?;
+        let key = RrKey::of(&entry.name, entry.record_type())?;
         self.remove(&key);
         Ok(())
     }
@@ -89,7 +89,7 @@ impl<'a> ChangingZone<'a> {
         if !is_guarded(self.origin, &entry.name, entry.record_type()) {
             return Ok(false);
         }
-        let key = key_of(&entry.name, entry.record_type())?;
+        let key = RrKey::of(&entry.name, entry.record_type())?;
         Ok(self.count(&key) <= 1)
     }
 }

@@ -1,6 +1,5 @@
 //! The record sets of a zone, each under its key.
 
-ghost use Rattle.base.specs.RrKey.{key_of as the_key};
 ghost use Rattle.base.specs.declared.rr_key.RrKey.{RrKey as Key};
 ghost use Rattle.op_use.specs.HeldZone.{HeldZone};
 ghost use Rattle.op_use.specs.Server.{is_cname as is_cname_type};
@@ -9,7 +8,7 @@ ghost use Rattle.std.specs.BTreeMap.{keys};
 ghost use Rattle.std.specs.List.{filter, list_any};
 ghost use Rattle.std.specs.Prelude.{IfOk, not, ◌&&◌, ◌≡◌};
 
-use base::{DNSClass, LowerName, Name, RecordType, RrKey};
+use base::{DNSClass, Name, RecordType, RrKey};
 use rr::RecordSet;
 use std::alloc::AllocError;
 use std::collections::BTreeMap;
@@ -36,14 +35,6 @@ impl<'a> Model for Zone<'a> {
     ghost invariant = { λ z. IsZoneMap z.class z.sets.now };
 }
 
-/// The key of an owner and a type.
-pub(crate) fn key_of(owner: &Name, record_type: RecordType) -> Result<RrKey, AllocError>
-    ensures { IfOk result (λ k. k ≡ the_key owner.now record_type) }
-{
-    let owner = LowerName::new(owner.allocator(), owner).map_err(|_| AllocError)?;
-    Ok(RrKey::new(owner, record_type))
-}
-
 /// Whether an owner has a set, of any type or of any but CNAME.
 pub(crate) fn has_type<V>(
     sets: &BTreeMap<RrKey, V>,
@@ -54,7 +45,7 @@ pub(crate) fn has_type<V>(
         ≡ list_any (λ (k : Key). is_owned owner.now k
         && not (is_beside && is_cname_type k.record_type)) (keys sets.now)) }
 {
-    let least = key_of(owner, RecordType::ZERO)?;
+    let least = RrKey::of(owner, RecordType::ZERO)?;
     for (key, _) in sets.range(&least..) {
         if least.name != key.name {
             return Ok(false);
@@ -71,7 +62,7 @@ pub(crate) fn has_type<V>(
 pub(crate) fn keys_of<V>(sets: &BTreeMap<RrKey, V>, owner: &Name) -> Result<Vec<RrKey>, AllocError>
     ensures { IfOk result (λ ks. ks.items ≡ filter (λ (k : Key). is_owned owner.now k) (keys sets.now)) }
 {
-    let least = key_of(owner, RecordType::ZERO)?;
+    let least = RrKey::of(owner, RecordType::ZERO)?;
     let mut found = Vec::new(owner.allocator());
     for (key, _) in sets.range(&least..) {
         if least.name != key.name {
