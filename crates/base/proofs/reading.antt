@@ -2,7 +2,6 @@
 pub mod CacheLemmas
 pub mod CountLemmas
 pub mod GatherLemmas
-pub mod GatheringLemmas
 pub mod ManyLemmas
 pub mod NamesLemmas
 pub mod PassLemmas
@@ -10,6 +9,5 @@ pub mod PieceLemmas
 pub mod ReadLemmas
 pub mod ReadingLemmas
 pub mod SpellingLemmas
-pub mod TailLemmas
 pub mod TrackLemmas
 pub mod WalkLemmas
