@@ -9,5 +9,6 @@ pub mod PieceLemmas
 pub mod ReadLemmas
 pub mod ReadingLemmas
 pub mod SpellingLemmas
+pub mod TargetLemmas
 pub mod TrackLemmas
 pub mod WalkLemmas

@@ -8,11 +8,13 @@ use Rattle.std.specs.FinMap as labels_by
 use Rattle.std.specs.FinSet as set
 use Rattle.std.specs.List.{slice_range}
 use Rattle.std.specs.Ordering.{nat_cmp}
+use Rattle.base.specs.declared.name.reading.NamePiece.{NamePiece}
 use Rattle.base.specs.declared.wire.pointer_cache.TargetLabels.{TargetLabels}
 use Rattle.base.specs.declared.wire.pointer_cache.TargetLabels.TheVariants.{Lent, Copied}
 use Rattle.base.specs.declared.wire.pointer_cache.Target.{Target}
 use Rattle.base.specs.names.Labels.{IsWire, labels_of}
 use Rattle.base.specs.reading.Passing.{inserted, passed}
+use Rattle.base.specs.reading.Pieces.{IsPiece}
 use Rattle.base.specs.reading.Reader.{Reader}
 use Rattle.base.specs.reading.Spelling.{Spelled}
 use Rattle.base.specs.reading.Tracks.{IsCounted}
@@ -132,6 +134,16 @@ pub record IsNewTarget (reader : Reader) (t : ℕ) : Type 0 where
   pub near : t < POINTER_LIMIT
   pub absent : set.contains reader.kept t ≡ false
   pub all_near : (q : ℕ) → set.contains reader.kept q ≡ true → q < POINTER_LIMIT
+
+-- The labels at t can be kept, which aren't yet: this piece stands there, and its pointer leads to an offset before it
+-- whose labels are kept and fit.
+pub record CanKeep (reader : Reader) (t : ℕ) (piece : NamePiece) : Type 0 where
+  pub near : t < POINTER_LIMIT
+  pub inside : t ≤ length reader.bytes
+  pub absent : set.contains reader.kept t ≡ false
+  pub stands : IsPiece (drop t reader.bytes) 0 piece
+  pub after : IfSome piece.pointer
+      (λ q. (q < t) × ((set.contains reader.kept q ≡ true) × Fit reader.bytes q piece.len))
 
 -- The offset t and what is passed from there are kept in addition, and as many pointers were followed.
 pub record IsAdded (t : ℕ) (old new : Reader) : Type 0 where

@@ -5,8 +5,7 @@ ghost use Rattle.std.specs.Prelude.{◌≡◌, ℕ, true, false, ◌+◌, ◌-�
 ghost use Rattle.std.specs.FinSet as set;
 ghost use Rattle.std.specs.Int.{w16, w32};
 ghost use Rattle.base.specs.reading.Passing.{IsClosed};
-ghost use Rattle.base.specs.reading.Pieces.{IsPiece};
-ghost use Rattle.base.specs.reading.Pointers.{Fit, IsKept};
+ghost use Rattle.base.specs.reading.Pointers.{CanKeep, IsKept};
 ghost use Rattle.base.specs.reading.Reader.{begun};
 ghost use Rattle.base.specs.reading.Reading.{Reads, byte_at, bytes_at, number_at};
 ghost use Rattle.base.specs.reading.Tracks.{IsCounted, Tracks};
@@ -157,23 +156,15 @@ impl<'a> BinDecoder<'a> {
     /// leads to.
     #[inline(always)]
     pub(crate) fn keep(&mut self, target: u16, piece: NamePiece) -> Result<(), DecodeError>
-        requires near { target < POINTER_LIMIT }
-        // This piece stands at the offset.
-        requires piece { IsPiece (drop target self.old.bytes) 0 piece }
-        // Its pointer leads to a kept offset before it, and all labels are a name's.
-        requires after { IfSome piece.pointer (λ t. (t < target)
-            × ((set.contains self.old.kept t ≡ true) × Fit self.old.bytes t piece.len)) }
-        // The offset isn't kept yet.
-        requires new { set.contains self.old.kept target ≡ false }
+        requires { CanKeep self.old target piece }
         ensures ok { OnOk result (self.new
             ≡ record self.old { kept = set.insert self.old.kept target }) }
         ensures err { OnErr result (self.new ≡ self.old) }
         ensures only { IsOkUnless result DecodeError.Memory }
     {
         let most = self.buffer.len().min(POINTER_LIMIT) as u16;
-        let start = usize::from(target);
-        let own = &self.buffer[start..start + piece.len];
-        self.cache.insert(target, own, piece.pointer, most)?;
+        let bytes = &self.buffer[usize::from(target)..];
+        self.cache.insert(target, &bytes[..piece.len], piece.pointer, most)?;
         Ok(())
     }
 
