@@ -3,6 +3,7 @@ use Rattle.base.specs.declared.limits.TheConstants.{MAX_LABELS, POINTER_LIMIT}
 use Rattle.std.specs.Prelude.{◌≡◌, ◌≢◌, ℕ, zero, suc, true, false, ◌+◌, ◌-◌, ◌<◌, ◌≤◌, ◌==◌, List}
 use Rattle.std.specs.Prelude.{[], ◌∷◌, ◌++◌, Option, Some, None, if◌then◌else◌, get_or, length, map}
 use Rattle.std.specs.Prelude.{option_map, take, unwrap_or}
+use Rattle.std.specs.Prelude.{IfSome, drop}
 use Rattle.std.specs.Borrow.{Bor}
 use Rattle.std.specs.FinMap as labels_by
 use Rattle.std.specs.FinSet as set

@@ -130,23 +130,24 @@ fn keep_target(
     ensures kept { OnOk result (IsAdded target decoder.old decoder.new) }
     ensures bounded { OnErr result (IsBounded decoder.old decoder.new) }
 {
-    let mut target = target;
-    let mut used = used;
+    let mut at = target;
+    let mut before = used;
     // The pieces whose pointer leads to labels that aren't kept yet.
     let mut waiting = Vec::new(decoder.allocator());
-    let mut piece = read_piece(decoder.follow(target), used)?;
-    while let Some(next) = piece.pointer {
-        used += piece.len;
-        if kept_labels(decoder, next, usize::from(target), used)?.is_some() {
+    let mut piece = read_piece(decoder.follow(at), before)?;
+    'pieces: while let Some(next) = piece.pointer {
+        let all = before + piece.len;
+        if kept_labels(decoder, next, usize::from(at), all)?.is_some() {
             break;
         }
-        waiting.push((target, piece))?;
-        target = next;
-        piece = read_piece(decoder.follow(target), used)?;
+        waiting.push((at, piece))?;
+        at = next;
+        before = all;
+        piece = read_piece(decoder.follow(at), before)?;
     }
-    decoder.keep(target, piece)?;
-    while let Some((target, piece)) = waiting.pop() {
-        decoder.keep(target, piece)?;
+    decoder.keep(at, piece)?;
+    'kept: while let Some((at, piece)) = waiting.pop() {
+        decoder.keep(at, piece)?;
     }
     Ok(())
 }

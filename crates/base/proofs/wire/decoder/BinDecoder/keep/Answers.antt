@@ -1,11 +1,9 @@
-use Rattle.std.proofs.Common.{◌≡◌, ◌<◌, ◌≤◌, ◌++◌, ℕ, List, sym, ap, ◌∙◌, subst, true, take, drop, length, arith, refl}
+use Rattle.std.proofs.Common.{◌++◌, sym, ap, ◌∙◌, subst, take, drop, refl}
 use Rattle.std.proofs.lemmas.List.{length-take-le}
 use Rattle.std.specs.FinSet as set
 use Rattle.std.specs.Ordering.{nat_cmp}
-use Rattle.std.specs.Prelude.{IfSome}
-use Rattle.base.specs.reading.Passing.{IsClosed, PassesKept}
-use Rattle.base.specs.reading.Pieces.{IsPiece}
-use Rattle.base.specs.reading.Pointers.{AreKept, Cache, CanKeep, IsKept, kept_after, targets_of}
+use Rattle.base.specs.reading.Passing.{IsClosed}
+use Rattle.base.specs.reading.Pointers.{AreKept, Cache, CanKeep, kept_after, targets_of}
 use Rattle.base.specs.reading.Reader.{Reader}
 use Rattle.base.proofs.reading.CountLemmas.{kept_are, not_kept, targets_inserted}
 use Rattle.base.proofs.reading.PassLemmas.{closed_inserted}
