@@ -20,7 +20,7 @@ use Rattle.base.proofs.reading.WalkLemmas.{part_at-label, part_at-pointer, part_
 
 -- ---- sets that hold more
 
-either : (a b : Bool) (P : Type 0) → (a ≡ true → P) → (b ≡ true → P) → (a || b) ≡ true → P
+pub either : (a b : Bool) (P : Type 0) → (a ≡ true → P) → (b ≡ true → P) → (a || b) ≡ true → P
 either true b P left right is = left refl
 either false b P left right is = right is
 
