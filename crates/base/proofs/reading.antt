@@ -3,6 +3,7 @@ pub mod CacheLemmas
 pub mod CountLemmas
 pub mod GatherLemmas
 pub mod ManyLemmas
+pub mod NameLemmas
 pub mod NamesLemmas
 pub mod PassLemmas
 pub mod PieceLemmas

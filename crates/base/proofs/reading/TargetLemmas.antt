@@ -2,7 +2,8 @@
 use Rattle.std.proofs.Common.{◌≡◌, ℕ, ◌+◌, ◌-◌, ◌^◌, ◌<◌, ◌≤◌, List, [], ◌∷◌, ◌++◌, length, take, drop, Option, None, Some}
 use Rattle.std.proofs.Common.{Ok, Err, Bool, true, false, refl, ap, sym, ◌∙◌, subst, arith, length-append, length-drop}
 use Rattle.std.proofs.Common.{length-take, append-nil, min, inl, inr}
-use Rattle.std.specs.Prelude.{IfSome, unwrap_or, nat_eq, ◌||◌}
+use Rattle.std.specs.Prelude.{IfSome, is_some, unwrap_or, nat_eq, ◌||◌}
+use Rattle.std.specs.Borrow.{Bor}
 use Rattle.std.specs.FinSet as set
 use Rattle.std.specs.Ordering.{nat_cmp}
 use Rattle.std.specs.Cmp.{nat_cmp_total}
@@ -136,6 +137,15 @@ whole : {old now : Reader} {first used t before : ℕ} {ws : List (ℕ × NamePi
     → Walked old now first used ws t before piece → part_at old.bytes (t + piece.len) ≡ Ok (ending_of piece.pointer)
 whole {old} {t = t} w = piece_end old.bytes t refl w.stands
 
+follows_first : {old now : Reader} {first : ℕ} → IsNewTarget old first
+    → now ≡ record old { jumps = min (old.jumps + 1) (2 ^ 64 - 1) } → Follows 1 first old now
+follows_first {old} {first = first} new is =
+    Follows-push (Follows-none (first + 1) old new.all_near) (omega arith) new.near new.absent is
+
+pub first_bounded : {old now : Reader} {first : ℕ} → IsNewTarget old first
+    → now ≡ record old { jumps = min (old.jumps + 1) (2 ^ 64 - 1) } → IsBounded old now
+first_bounded new is counted = let few = Follows-few (follows_first new is) counted in omega (arith, few.0, few.1)
+
 pub walked_first : {old now : Reader} {first used : ℕ} {piece : NamePiece} {front : List ℕ} → used ≤ 254
     → IsNewTarget old first → front ≡ drop first old.bytes → IsPiece front used piece
     → IfSome piece.pointer (λ q. q < 16384) → now ≡ record old { jumps = min (old.jumps + 1) (2 ^ 64 - 1) }
@@ -145,7 +155,7 @@ walked_first {old} {now} {first} {used} {piece} few new front stands next_near i
   end = None;
   gathers = gathers_none old.bytes first used new.inside few;
   chain = no_more;
-  follows = Follows-push (Follows-none (first + 1) old new.all_near) (omega arith) new.near new.absent is;
+  follows = follows_first new is;
   stands = subst (λ (xs : List ℕ). IsPiece xs used piece) front stands;
   next_near = next_near;
   inside = new.inside;
@@ -271,6 +281,14 @@ module _ {old now : Reader} {first used t before : ℕ} {ws : List (ℕ × NameP
         };
         passes = piece_passes old.bytes t old.kept w.inside w.stands closed_old (rw some has_old);
       }
+
+  pub ends_found : {q : ℕ} (found : Option (Bor (List ℕ))) → piece.pointer ≡ Some q → q < t
+      → is_some found ≡ set.contains now.kept q → is_some found ≡ true
+      → IfSome found (λ labels. IsKept now.bytes q labels.now)
+      → IfSome found (λ labels. before + piece.len + length labels.now ≤ 254) → IsClosed now.bytes now.kept
+      → Ends old now t before piece
+  ends_found None some below is has kept short closed = absurd (false≢true has)
+  ends_found (Some labels) some below is has kept short closed = ends_kept some below (sym is) kept short closed
 
   -- once it is kept
   pub keeping_last : {after : Reader} → Ends old now t before piece

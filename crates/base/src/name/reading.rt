@@ -1,7 +1,7 @@
 //! Reads a name (RFC 1035, 4.1.4).
 
 ghost use Rattle.base.specs.declared.limits.TheConstants.{MAX_LABELS, POINTER_LIMIT};
-ghost use Rattle.std.specs.Prelude.{◌≡◌, ℕ, ◌<◌, ◌≤◌, ◌+◌, ◌++◌, ◌∷◌, [], Ok, Err, length, take, drop, IfErr, IfOk, IfSome, OnOk, OnErr, IsOkUnless, MatchResult, is_some, true};
+ghost use Rattle.std.specs.Prelude.{Some, ◌≡◌, ℕ, ◌<◌, ◌≤◌, ◌+◌, ◌++◌, ◌∷◌, [], Ok, Err, length, take, drop, IfErr, IfOk, IfSome, OnOk, OnErr, IsOkUnless, MatchResult, is_some, true};
 ghost use Rattle.std.specs.FinSet as set;
 ghost use Rattle.base.specs.names.Labels.{IsWire, labels_of};
 ghost use Rattle.base.specs.reading.Names.{labels_at, name_at};
@@ -152,6 +152,40 @@ fn keep_target(
     Ok(())
 }
 
+/// Reads a name whose own piece ends in a pointer to labels that aren't kept yet.
+///
+/// # Errors
+///
+/// What `read` refuses.
+#[tactic(auto, unfolding(crate::specs::reading::Names::name_at))]
+fn read_following(
+    decoder: &mut BinDecoder<'_>,
+    own: &[u8],
+    piece: NamePiece,
+    target: u16,
+) -> Result<Name, DecodeError>
+    requires own { own.now ≡ drop decoder.old.index decoder.old.bytes }
+    requires piece { IsPiece own.now 0 piece }
+    requires leads { piece.pointer ≡ Some target }
+    requires below { target < decoder.old.index }
+    requires new { IsNewTarget decoder.old target }
+    // These are as of every name: see `read`.
+    ensures read { Reads (λ x. x) decoder.old decoder.new result
+        (name_at decoder.old.bytes decoder.old.index) }
+    ensures passes { IfOk result
+        (λ n. (h : Spelled decoder.old.bytes n.labels decoder.old.index decoder.old.index
+        decoder.new.index)
+        → decoder.new.kept ≡ set.union decoder.old.kept (set.from_list (passed h))) }
+    ensures tracks { Tracks (λ _. decoder.old.index ∷ []) decoder.old decoder.new result }
+{
+    let end = decoder.index() + piece.len + 2;
+    keep_target(decoder, target, piece.len)?;
+    let kept = decoder.labels_at(target).unwrap();
+    let labels = Labels::from_front_and(decoder.allocator(), own, piece.len, kept, true)?;
+    decoder.move_to(end);
+    Ok(Name { labels })
+}
+
 impl BinDecodable for Name {
     ghost read_at = { name_at };
 
@@ -180,21 +214,17 @@ impl BinDecodable for Name {
     {
         let first = decoder.index();
         let own = decoder.rest();
-        let NamePiece { len, pointer } = read_piece(own, 0)?;
-        let Some(target) = pointer else {
-            let labels = Labels::from_front(decoder.allocator(), own, len, true)?;
-            decoder.move_to(first + len + 1);
+        let piece = read_piece(own, 0)?;
+        let Some(target) = piece.pointer else {
+            let labels = Labels::from_front(decoder.allocator(), own, piece.len, true)?;
+            decoder.move_to(first + piece.len + 1);
             return Ok(Name { labels });
         };
-        let kept = match kept_labels(decoder, target, first, len)? {
-            Some(kept) => kept,
-            None => {
-                keep_target(decoder, target, len)?;
-                decoder.labels_at(target).unwrap()
-            }
+        let Some(kept) = kept_labels(decoder, target, first, piece.len)? else {
+            return read_following(decoder, own, piece, target);
         };
-        let labels = Labels::from_front_and(decoder.allocator(), own, len, kept, true)?;
-        decoder.move_to(first + len + 2);
+        let labels = Labels::from_front_and(decoder.allocator(), own, piece.len, kept, true)?;
+        decoder.move_to(first + piece.len + 2);
         Ok(Name { labels })
     }
 }

@@ -1,13 +1,11 @@
-use Rattle.std.proofs.Common.{◌≡◌, ◌∙◌, ◌∷◌, ◌++◌, [], ℕ, List, Ok, Err, Result, true, length, ap, sym, subst, refl, arith}
+use Rattle.std.proofs.Common.{◌≡◌, ◌∙◌, [], Ok, Err, Result, ap, sym, subst, arith}
 use Rattle.std.proofs.lemmas.Result.{err_from_is_err_and}
 use Rattle.std.proofs.lemmas.Grind.{common_steps}
-use Rattle.std.specs.Prelude.{OnErr, is_some}
-use Rattle.base.specs.declared.name.reading.NamePiece.{NamePiece}
-use Rattle.base.specs.reading.Reader.{Reader}
+use Rattle.std.specs.Prelude.{OnErr}
 use Rattle.base.specs.reading.Tracks.{IsBounded}
 use Rattle.base.proofs.reading.GatherLemmas.{fails_is, gathers_none}
 use Rattle.base.proofs.reading.PieceLemmas.{piece_refused}
-use Rattle.base.proofs.reading.TargetLemmas.{Ends, Keeping, Walked, can_keep_next, ends_kept, ends_none, keeping_bounded}
+use Rattle.base.proofs.reading.TargetLemmas.{Keeping, can_keep_next, ends_found, ends_none, first_bounded, keeping_bounded}
 use Rattle.base.proofs.reading.TargetLemmas.{keeping_last, keeping_next, kept_all, next_bounded, next_refused}
 use Rattle.base.proofs.reading.TargetLemmas.{walked_bounded, walked_first, walked_next, walked_nowhere}
 use Rattle.base.proofs.name.reading.keep_target.Goals as goal
@@ -26,7 +24,8 @@ returns-in_err-piece-clause-read c =
     c.in_err-piece.ensures.piece))
 
 pub returns-in_err-piece-clause-bounded : goal.returns-in_err-piece-clause-bounded
-returns-in_err-piece-clause-bounded c = on_err c.from_residual.result ?
+returns-in_err-piece-clause-bounded c = on_err c.from_residual.result
+    (first_bounded c.requires.new c.follow.ensures.counted)
 
 pub pieces-init : goal.pieces-init
 pieces-init c = rw c.new-waiting.ensures.items (walked_first c.requires.few c.requires.new c.follow.ensures.lent
@@ -53,7 +52,7 @@ returns-in_err-piece-2-clause-read c =
     let k = c.in_ok-kept_labels.ensures in
     let e = c.in_err-piece-2.field-0.0 in
     rw (p.1, p.2) (fails_is e _ (next_refused c.pieces.invariant c.in-Some.is (omega (arith, k.below, c.from.ensures))
-    ? c.follow-in-Some.ensures.counted c.follow-in-Some.ensures.lent c.in_err-piece-2.ensures.piece))
+    (sym k.is ∙ sym c.is_some.ensures ∙ c.if-is_some.false) c.follow-in-Some.ensures.counted c.follow-in-Some.ensures.lent c.in_err-piece-2.ensures.piece))
 
 pub returns-in_err-piece-2-clause-bounded : goal.returns-in_err-piece-2-clause-bounded
 returns-in_err-piece-2-clause-bounded c =
@@ -72,7 +71,10 @@ pieces-preserved c =
 
 pub keep-requires : goal.keep-requires
 keep-requires c = elim c.match-piece.branch [
-  | in-Some+in_ok-kept_labels+then-is_some w ↦ ?
+  | in-Some+in_ok-kept_labels+then-is_some w ↦
+      let k = w.in_ok-kept_labels.ensures in
+      (ends_found c.pieces.invariant w.in_ok-kept_labels.field-0 w.in-Some.is
+      (omega (arith, k.below, w.from.ensures)) k.is (sym w.is_some.ensures ∙ w.if-is_some.true) k.spelled k.short k.closed).can
   | in_default w ↦ (ends_none c.pieces.invariant w.in_default.is).can
 ]
 
@@ -82,13 +84,17 @@ returns-in_err-keep-clause-bounded c = on_err c.from_residual-in_err-keep.result
 
 pub kept-init : goal.kept-init
 kept-init c = elim c.match-piece.branch [
-  | in-Some+in_ok-kept_labels+then-is_some w ↦ ?
+  | in-Some+in_ok-kept_labels+then-is_some w ↦
+      let k = w.in_ok-kept_labels.ensures in
+      keeping_last c.pieces.invariant (ends_found c.pieces.invariant w.in_ok-kept_labels.field-0 w.in-Some.is
+      (omega (arith, k.below, w.from.ensures)) k.is (sym w.is_some.ensures ∙ w.if-is_some.true) k.spelled k.short k.closed) c.in_ok-keep.ensures.ok
   | in_default w ↦ keeping_last c.pieces.invariant (ends_none c.pieces.invariant w.in_default.is) c.in_ok-keep.ensures.ok
 ]
 
 pub keep-requires-in-Some-pop : goal.keep-requires-in-Some-pop
 keep-requires-in-Some-pop c =
-    can_keep_next c.pop.new.self.items c.in-Some-pop.at c.in-Some-pop.piece c.kept.invariant ?
+    can_keep_next c.pop.new.self.items c.in-Some-pop.at c.in-Some-pop.piece c.kept.invariant
+    c.in-Some-pop.ensures.items
 
 pub returns-in_err-keep-2-clause-bounded : goal.returns-in_err-keep-2-clause-bounded
 returns-in_err-keep-2-clause-bounded c = on_err c.from_residual-in_err-keep-2.result
@@ -96,7 +102,8 @@ returns-in_err-keep-2-clause-bounded c = on_err c.from_residual-in_err-keep-2.re
 
 pub kept-preserved : goal.kept-preserved
 kept-preserved c =
-    keeping_next c.pop.new.self.items c.in-Some-pop.at c.in-Some-pop.piece c.kept.invariant ? c.in_ok-keep-2.ensures.ok
+    keeping_next c.pop.new.self.items c.in-Some-pop.at c.in-Some-pop.piece c.kept.invariant
+    c.in-Some-pop.ensures.items c.in_ok-keep-2.ensures.ok
 
 pub returns-clause-read : goal.returns-clause-read
 returns-clause-read c =

@@ -1,4 +1,3 @@
-use Rattle.std.proofs.Common.{◌≡◌}
 use Rattle.std.specs.Prelude.{length}
 use Rattle.base.proofs.reading.TargetLemmas.{Keeping, Walked}
 use Rattle.base.proofs.name.reading.keep_target.Given as goal
