@@ -1,23 +1,26 @@
 -- What the read of a name leaves of a decoder.
-use Rattle.std.proofs.Common.{◌≡◌, ℕ, ◌+◌, ◌<◌, ◌≤◌, List, [], ◌∷◌, ◌++◌, length, take, drop, None, Some, Ok, Err}
+use Rattle.std.proofs.Common.{◌≡◌, ℕ, ◌+◌, ◌<◌, ◌≤◌, List, [], ◌∷◌, ◌++◌, length, drop, None, Some, Ok}
 use Rattle.std.proofs.Common.{true, refl, ap, sym, ◌∙◌, subst, arith}
 use Rattle.std.proofs.lemmas.List.{append-nil}
 use Rattle.std.proofs.lemmas.List.Elements.{All-cons, All-nil}
 use Rattle.std.specs.FinSet as set
 use Rattle.std.specs.Ordering.{nat_cmp}
 use Rattle.base.specs.declared.name.reading.NamePiece.{NamePiece}
-use Rattle.base.specs.names.Labels.{IsWire, labels_of}
+use Rattle.base.specs.names.Labels.{labels_of}
 use Rattle.base.specs.reading.Names.{labels_at}
-use Rattle.base.specs.reading.Passing.{IsClosed, inserted, no_names, one_more, passed}
+use Rattle.base.specs.reading.Passing.{IsClosed, is_among, inserted, no_names, one_more, passed}
 use Rattle.base.specs.reading.Pieces.{IsPiece}
 use Rattle.base.specs.reading.Pointers.{Fit, IsAdded, IsKept}
 use Rattle.base.specs.reading.Reader.{Reader}
 use Rattle.base.specs.reading.Spelling.{Spelled}
 use Rattle.base.specs.reading.Tracks.{IsCounted, Tracked}
-use Rattle.base.proofs.reading.CountLemmas.{ends_after, inserted-none, inserted-same}
+use Rattle.base.proofs.reading.CountLemmas.{contains-inserted, kept_once, ends_after, inserted-none, inserted-same}
 use Rattle.base.proofs.reading.GatherLemmas.{spelled_is}
 use Rattle.base.proofs.reading.PassLemmas.{kept_next}
 use Rattle.base.proofs.reading.PieceLemmas.{piece_next, piece_root}
+use Rattle.base.proofs.reading.TargetLemmas.{or_same}
+use Rattle.std.proofs.lemmas.Bool.{eq-eqb}
+use Rattle.std.specs.Prelude.{nat_eq}
 
 -- the targets of the pointers in a name's spelling are kept in addition
 abbrev pub Adds : Reader → set.FinSet nat_cmp → Type 0
@@ -72,3 +75,20 @@ module _ (old : Reader) {front : List ℕ} {piece : NamePiece} (inside : old.ind
     adds_new added xs e h =
         let r = piece_next old.bytes old.index inside same stands some xs e h in
         added.kept r.labels r.end r.spelled ∙ ap (λ (qs : List ℕ). inserted qs old.kept) (sym r.passes)
+
+-- ---- once a target is kept
+
+pub added_has : {old new : Reader} {t used : ℕ} → Fit old.bytes t used → IsAdded t old new
+    → set.contains new.kept t ≡ true
+added_has {old} {t = t} fit added =
+    let h = fit.kept.spelled in
+    ap (λ (s : set.FinSet nat_cmp). set.contains s t) (added.kept _ _ h)
+    ∙ contains-inserted (t ∷ passed h) old.kept t
+    ∙ or_same (set.contains old.kept t) (nat_eq t t) (is_among (passed h) t) (eq-eqb t t refl)
+
+-- the labels that are kept are those that fit
+pub added_fits : {old new : Reader} {t used : ℕ} {items : List ℕ} → Fit old.bytes t used → IsAdded t old new
+    → IsKept new.bytes t items → IsKept old.bytes t items × (used + length items ≤ 254)
+added_fits {old} {new} {t} {used} {items} fit added kept_new =
+    let kept = subst (λ (bs : List ℕ). IsKept bs t items) (ap (λ (r : Reader). r.bytes) added.now) kept_new in
+    (kept, omega (arith, fit.short, ap length (kept_once fit.kept kept)))

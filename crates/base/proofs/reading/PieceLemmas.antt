@@ -20,7 +20,7 @@ use Rattle.base.specs.reading.Passing.{IsClosed, PassesKept, is_among, passed}
 use Rattle.base.specs.declared.error.decode_error.DecodeError.{DecodeError}
 use Rattle.base.specs.declared.error.decode_error.DecodeError.TheVariants as faults
 use Rattle.base.proofs.reading.GatherLemmas.{Gathers, IsWire-append, at_fault, at_kept, at_long, at_root, gathers_label}
-use Rattle.base.proofs.reading.GatherLemmas.{gathers_none, pointer_refused, spelled_is}
+use Rattle.base.proofs.reading.GatherLemmas.{fails, gathers_none, gathers_pointer, pointer_refused, spelled_is}
 use Rattle.base.proofs.reading.PassLemmas.{Leads, Leads-label, Leads-none, Rest, kept_next, passes_next, passes_none}
 use Rattle.base.proofs.reading.WalkLemmas.{PartIs, byte, is_past, is_root, is_cut_label, is_label, is_bits}
 use Rattle.base.proofs.reading.WalkLemmas.{is_cut_pointer, is_pointer, part_is}
@@ -249,6 +249,10 @@ module _ (bytes : List ℕ) (s : ℕ) {front : List ℕ} {before : ℕ} {piece :
     pub reads_nowhere : (t < s → AreTooLong bytes t (before + piece.len))
         → labels_at bytes s s before ≡ Err faults.BadName
     reads_nowhere long = pointer_refused gathers_own (part (ap ending_of some)) long
+
+    pub reads_refused : t < s → (f : DecodeError) → labels_at bytes t t (before + piece.len) ≡ Err f
+        → labels_at bytes s s before ≡ Err f
+    reads_refused below f refused = fails (gathers_pointer gathers_own t (part (ap ending_of some)) below) f refused
 
     pub wire_next : {items : List ℕ} → IsKept bytes t items → before + piece.len + length items ≤ 254
         → IsWire (own ++ items)

@@ -317,7 +317,7 @@ module _ {old now : Reader} {first used t before : ℕ} {ws : List (ℕ × NameP
 
 -- ---- the pieces before it, from the last to the first
 
-or_same : (a b c : Bool) → b ≡ true → (a || (b || c)) ≡ true
+pub or_same : (a b c : Bool) → b ≡ true → (a || (b || c)) ≡ true
 or_same true b c is = refl
 or_same false true c is = refl
 or_same false false c is = absurd (false≢true is)

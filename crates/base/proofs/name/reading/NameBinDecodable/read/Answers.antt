@@ -1,7 +1,8 @@
-use Rattle.std.proofs.Common.{◌∙◌, ◌++◌, ◌+◌, ◌≤◌, ℕ, Ok, Err, refl, ap, arith, drop, length, length-drop, take, sym}
+use Rattle.std.proofs.Common.{◌∙◌, ◌+◌, ◌≤◌, ◌≡◌, ℕ, Ok, Err, refl, ap, arith, length, length-drop, sym, subst}
 use Rattle.std.specs.Prelude.{is_some}
 use Rattle.std.proofs.lemmas.Result.{err_from_is_err_and}
 use Rattle.base.specs.reading.Pieces.{ending_of}
+use Rattle.base.specs.reading.Pointers.{AreTooLong}
 use Rattle.base.proofs.reading.GatherLemmas.{fails_is, gathers_none, pointer_fits, root_fits}
 use Rattle.base.proofs.reading.NameLemmas.{adds_kept, adds_root, name_read}
 use Rattle.base.proofs.reading.PieceLemmas.{gathers_own, piece_fits, piece_refused, reads_next, reads_nowhere, reads_root}
@@ -67,8 +68,9 @@ returns-in_err-kept-clause-read c =
     let k = c.in_err-kept.ensures in
     let p = err_from_is_err_and c.from_residual-in_err-kept.result c.from_residual-in_err-kept.ensures.1 in
     let e = c.in_err-kept.field-0.0 in
+    let all : c.in_ok-piece.piece.len ≡ 0 + c.in_ok-piece.piece.len = omega arith in
     let nowhere = reads_nowhere old.bytes old.index (omega (arith, at.inside, at.value)) c.rest-own.ensures
-    c.in_ok-piece.ensures.piece c.in-Some.is (λ below. k.refused (omega (arith, below, at.value))) in
+    c.in_ok-piece.ensures.piece c.in-Some.is (λ below. subst (AreTooLong old.bytes c.in-Some.target) all (k.refused (omega (arith, below, at.value)))) in
     rw (p.1, p.2) (fails_is e _ (name_refused old.bytes old.index e (nowhere ∙ ap Err (sym k.err))))
 
 pub read_following-requires : goal.read_following-requires
@@ -84,7 +86,7 @@ read_following-requires c =
       new = record {
         inside = omega (arith, k.below, at.inside);
         near = rw c.in-Some.is at c.in_ok-piece.ensures.near;
-        absent = sym k.is ∙ ap is_some c.in_default-kept.is;
+        absent = sym k.is ∙ ap is_some c.in_default-2.is;
         all_near = k.near;
       };
     }
@@ -111,7 +113,7 @@ invariant_of-result-2 c =
     let k = c.in_ok-kept.ensures in
     rw (c.in_ok-labels-2.ensures, c.rest-own.ensures)
     (wire_next old.bytes old.index (omega (arith, at.inside, at.value)) c.rest-own.ensures c.in_ok-piece.ensures.piece
-    c.in-Some.is (rw c.in-Some-2.is at k.spelled) (rw c.in-Some-2.is at k.short))
+    c.in-Some.is (rw c.in-Some-2.is at k.spelled) (omega (arith, rw c.in-Some-2.is at k.short)))
 
 pub returns : goal.returns
 returns c =
@@ -120,7 +122,7 @@ returns c =
     let k = c.in_ok-kept.ensures in
     let inside : old.index ≤ length old.bytes = omega (arith, at.inside, at.value) in
     let read = reads_next old.bytes old.index inside c.rest-own.ensures c.in_ok-piece.ensures.piece c.in-Some.is
-    (omega (arith, k.below, at.value)) (rw c.in-Some-2.is at k.spelled) (rw c.in-Some-2.is at k.short) in
+    (omega (arith, k.below, at.value)) (rw c.in-Some-2.is at k.spelled) (omega (arith, rw c.in-Some-2.is at k.short)) in
     let after = name_read {mid = old} _ read
     (adds_kept old inside c.rest-own.ensures c.in_ok-piece.ensures.piece c.in-Some.is
     (sym k.is ∙ ap is_some c.in-Some-2.is) k.closed) refl (λ counted. counted)
