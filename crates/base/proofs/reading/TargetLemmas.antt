@@ -226,7 +226,7 @@ module _ {old now : Reader} {first used t before : ℕ} {ws : List (ℕ × NameP
           below = below;
         });
         follows = subst (λ (n : ℕ). Follows n q old after)
-          (omega (arith, length-append ws ((t, piece) ∷ []))) follows_next;
+            (omega (arith, length-append ws ((t, piece) ∷ []))) follows_next;
         stands = subst (λ (xs : List ℕ). IsPiece xs (before + piece.len) next) (front ∙ ap (drop q) bytes_are) stands;
         next_near = near;
         inside = omega (arith, below, w.inside);
@@ -264,7 +264,7 @@ module _ {old now : Reader} {first used t before : ℕ} {ws : List (ℕ × NameP
     };
     passes = λ xs e h q in_it. absurd (false≢true
         (ap (λ (qs : List ℕ). is_among qs q) (sym (piece_root old.bytes t w.inside refl w.stands none xs e h))
-          ∙ in_it));
+        ∙ in_it));
   }
 
   pub ends_kept : {q : ℕ} {items : List ℕ} → piece.pointer ≡ Some q → q < t → set.contains now.kept q ≡ true
@@ -276,11 +276,16 @@ module _ {old now : Reader} {first used t before : ℕ} {ws : List (ℕ × NameP
       ap (λ (k : set.FinSet nat_cmp). set.contains k q) (sym (kept_are_old w)) ∙ has in
       let closed_old : IsClosed old.bytes old.kept =
       subst (IsClosed old.bytes) (kept_are_old w)
-        (subst (λ (bs : List ℕ). IsClosed bs now.kept) (bytes_are w) closed) in
+      (subst (λ (bs : List ℕ). IsClosed bs now.kept) (bytes_are w) closed) in
       let own = take piece.len (drop t old.bytes) in
       record {
-        can = can_keep (rw some (below, (has_old,
-          record { items = items; kept = kept; short = omega (arith, short) })));
+        can = can_keep (rw some (
+          below,
+          (
+            has_old,
+            record { items = items; kept = kept; short = omega (arith, short) },
+          ),
+        ));
         fit = record {
           items = own ++ items;
           kept = kept_piece old.bytes t w.inside refl w.stands some w.near below kept short;
@@ -351,7 +356,7 @@ module _ {old now : Reader} {first used : ℕ} {ws : List (ℕ × NamePiece)} (o
         (λ same. omega (arith, w.below, eqb-true k.at t same))
         (λ in_it. omega (arith, w.below, passed_below h t in_it)) one)
         (sym (ap (λ (s : set.FinSet nat_cmp). set.contains s t) (k.adds _ _ h)
-          ∙ contains-inserted (k.at ∷ passed h) old.kept t)
+        ∙ contains-inserted (k.at ∷ passed h) old.kept t)
         ∙ has))
     | inr hasnt ↦ hasnt
   ]

@@ -52,7 +52,8 @@ returns-clause-next c =
       | in_default w ↦ ap message_value w.message-is
           ∙ later m first w.clear.new.self.items place rs w.in_default.not-Start frame w.clear.ensures.items
     ] in
-    next_is zone.origin.now zone.class zone.sets.now c.args.soa.now m place c.in_ok-next.next c.new-answers.result filled
+    next_is zone.origin.now zone.class zone.sets.now c.args.soa.now m place c.in_ok-next.next c.new-answers.result
+    filled
     (message_value c.match-place.message) c.new-answers.ensures.none
     (c.new-answers.ensures.room ∙ c.room_beside.ensures ∙ ap room_beside c.deref.ensures.value)
     (λ h. false≢true (sym c.if-is_empty.false ∙ c.is_empty.ensures

@@ -54,7 +54,7 @@ returns-in_err-piece-2-clause-read c =
     let e = c.in_err-piece-2.field-0.0 in
     rw (p.1, p.2) (fails_is e _ (next_refused c.pieces.invariant c.in-Some.is (omega (arith, k.below, c.from.ensures))
     (sym k.is ∙ sym c.is_some.ensures ∙ c.if-is_some.false) c.follow-in-Some.ensures.counted
-      c.follow-in-Some.ensures.lent c.in_err-piece-2.ensures.piece))
+    c.follow-in-Some.ensures.lent c.in_err-piece-2.ensures.piece))
 
 pub returns-in_err-piece-2-clause-bounded : goal.returns-in_err-piece-2-clause-bounded
 returns-in_err-piece-2-clause-bounded c =
@@ -77,7 +77,7 @@ keep-requires c = elim c.match-piece.branch [
       let k = w.in_ok-kept_labels.ensures in
       (ends_found c.pieces.invariant w.in_ok-kept_labels.field-0 w.in-Some.is
       (omega (arith, k.below, w.from.ensures)) k.is
-        (sym w.is_some.ensures ∙ w.if-is_some.true) k.spelled k.short k.closed).can
+      (sym w.is_some.ensures ∙ w.if-is_some.true) k.spelled k.short k.closed).can
   | in_default w ↦ (ends_none c.pieces.invariant w.in_default.is).can
 ]
 
@@ -91,9 +91,9 @@ kept-init c = elim c.match-piece.branch [
       let k = w.in_ok-kept_labels.ensures in
       keeping_last c.pieces.invariant (ends_found c.pieces.invariant w.in_ok-kept_labels.field-0 w.in-Some.is
       (omega (arith, k.below, w.from.ensures)) k.is
-        (sym w.is_some.ensures ∙ w.if-is_some.true) k.spelled k.short k.closed) c.in_ok-keep.ensures.ok
+      (sym w.is_some.ensures ∙ w.if-is_some.true) k.spelled k.short k.closed) c.in_ok-keep.ensures.ok
   | in_default w ↦ keeping_last c.pieces.invariant
-    (ends_none c.pieces.invariant w.in_default.is) c.in_ok-keep.ensures.ok
+      (ends_none c.pieces.invariant w.in_default.is) c.in_ok-keep.ensures.ok
 ]
 
 pub keep-requires-in-Some-pop : goal.keep-requires-in-Some-pop

@@ -12,7 +12,8 @@ pub sets-smaller : goal.sets-smaller
 sets-smaller c = fewer _ c.pop.new.self _ c.in-Some.ensures.items
 
 pub sets-preserved-in_ok-insert : goal.sets-preserved-in_ok-insert
-sets-preserved-in_ok-insert c = one_more_put _ _ _ _ c.pop.new.self c.insert.new.self.entries c.requires c.sets.invariant
+sets-preserved-in_ok-insert c = one_more_put _ _ _ _ c.pop.new.self c.insert.new.self.entries c.requires
+    c.sets.invariant
     c.in-Some.ensures.items c.in_ok-insert.ensures.entries
 
 pub sets-preserved : goal.sets-preserved

@@ -42,7 +42,7 @@ pub invariant_of-result : goal.invariant_of-result
 invariant_of-result c =
     let old = c.args.decoder.now in
     let inside : old.index ≤ length old.bytes =
-      omega (arith, c.index-first.ensures.inside, c.index-first.ensures.value) in
+    omega (arith, c.index-first.ensures.inside, c.index-first.ensures.value) in
     rw (c.in_ok-labels.ensures, c.rest-own.ensures)
     (gathers_own old.bytes old.index inside c.rest-own.ensures c.in_ok-piece.ensures.piece).wire
 
@@ -57,7 +57,7 @@ returns-in_default c =
     (c.move_to.ensures ∙ ap (λ (i : ℕ). record old { index = i + c.in_ok-piece.piece.len + 1 }) at.value) in
     record {
       read = rw (c.move_to.ensures, c.in_ok-labels.ensures, at.value, c.rest-own.ensures)
-        (name_from _ _ _ _ read, refl);
+          (name_from _ _ _ _ read, refl);
       passes = λ h. after.passes _ _ h;
       tracks = after.tracks;
     }
@@ -74,7 +74,7 @@ returns-in_err-kept-clause-read c =
     let all : c.in_ok-piece.piece.len ≡ 0 + c.in_ok-piece.piece.len = omega arith in
     let nowhere = reads_nowhere old.bytes old.index (omega (arith, at.inside, at.value)) c.rest-own.ensures
     c.in_ok-piece.ensures.piece c.in-Some.is (λ below. subst (AreTooLong old.bytes c.in-Some.target) all
-      (k.refused (omega (arith, below, at.value)))) in
+    (k.refused (omega (arith, below, at.value)))) in
     rw (p.1, p.2) (fails_is e _ (name_refused old.bytes old.index e (nowhere ∙ ap Err (sym k.err))))
 
 pub read_following-requires : goal.read_following-requires

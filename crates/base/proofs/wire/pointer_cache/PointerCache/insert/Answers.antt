@@ -27,7 +27,7 @@ joined-requires-2-clause-short c =
     record { view = c.self.view_is; inside = c.self.invariant.1.0; there = c.self.invariant.1.1 } in
     let reached = made_reach made c.in_ok-reach.ensures.same in
     subst (λ (m : Cache). length (c.args.own.now ++ kept_after m c.args.after) ≤ 254)
-      (sym reached.view) c.requires.short
+    (sym reached.view) c.requires.short
 
 pub joined-requires-2-clause-inside : goal.joined-requires-2-clause-inside
 joined-requires-2-clause-inside c =
@@ -110,6 +110,6 @@ returns-clause-ok c =
     let placed = made_place most c.from-3.result c.in_ok-place.place there c.in_ok-place.ensures.place.0 in
     placed.view
     ∙ ap (λ (q : ℕ). map.insert c.args.self.now q (labels_from c.place_of.new.bytes c.in_ok-place.place))
-      c.from-3.ensures
+    c.from-3.ensures
     ∙ ap (λ (xs : List ℕ). map.insert c.args.self.now c.args.offset xs) (c.in_ok-place.ensures.place.1
     ∙ c.in_ok-labels-2.ensures.ok ∙ ap (λ (m : Cache). c.args.own.now ++ kept_after m c.args.after) reached.view)
