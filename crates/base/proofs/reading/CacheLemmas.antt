@@ -1,7 +1,8 @@
 -- The labels that a cache keeps by offset, where more are kept.
 use Rattle.std.proofs.Common.{◌≡◌, ◌≢◌, ℕ, zero, suc, ◌+◌, ◌-◌, ◌<◌, ◌≤◌, Bool, true, false, cond, List, [], ◌∷◌, ◌++◌}
 use Rattle.std.proofs.Common.{length, take, drop, append_assoc}
-use Rattle.std.proofs.Common.{Some, None, refl, ap, sym, ◌∙◌, subst, arith, length-append, length-drop, length-take, inl, inr}
+use Rattle.std.proofs.Common.{Some, None, refl, ap, sym, ◌∙◌, subst, arith, length-append, length-drop, length-take}
+use Rattle.std.proofs.Common.{inl, inr}
 use Rattle.std.specs.Prelude.{All, Option, unwrap_or, get_or, nat_eq, nat_lt, replicate, slice_set, ◌==◌}
 use Rattle.std.specs.Cmp.{nat_cmp_total, unsigned_tied}
 use Rattle.std.specs.FinMap as map
@@ -10,7 +11,8 @@ use Rattle.std.specs.Option.{option_or}
 use Rattle.std.specs.Ordering.{eq_by_cmp, nat_cmp}
 use Rattle.std.proofs.lemmas.Bool.{cases_Bool, cond-true, cond-false, eqb-true, eqb-false, eq-eqb, ne_eqb}
 use Rattle.std.proofs.lemmas.Bool.{ltb-true, ltb-false}
-use Rattle.std.proofs.lemmas.List.{append-nil, drop-append-le, take-append-le, take_all, drop_all, drop-drop, get_or_append_left}
+use Rattle.std.proofs.lemmas.List.{append-nil, drop-append-le, take-append-le, take_all, drop_all, drop-drop}
+use Rattle.std.proofs.lemmas.List.{get_or_append_left}
 use Rattle.std.proofs.lemmas.List.{get_or-append_right, get_or_past, get_or_default, get_or-set_same, get_or-set_other}
 use Rattle.std.proofs.lemmas.List.{length-set, map_push, take_more_set}
 use Rattle.std.proofs.lemmas.List.Elements.{All-push, All-weaker}
@@ -142,8 +144,14 @@ copied_inside used j k first own rest [] owned rested none fits is also = rw (is
     (let len = length own + length rest in
     let one = slice_set first used len in
     take-put_mid (used + 1 + length own) j (put_mid (used + 1) k one own) rest (used + 1 + len) (omega arith)
-    (omega (arith, fits, length-append (take (used + 1) one) (own ++ drop k (drop (used + 1) one)),
-    length-append own (drop k (drop (used + 1) one)), length-take (used + 1) one, length-set first used len))
+    (omega (
+      arith,
+      fits,
+      length-append (take (used + 1) one) (own ++ drop k (drop (used + 1) one)),
+      length-append own (drop k (drop (used + 1) one)),
+      length-take (used + 1) one,
+      length-set first used len,
+    ))
     ∙ ap (λ (xs : List ℕ). xs ++ rest) (take-put_mid (used + 1) k one own (used + 1 + length own) refl
     (omega (arith, fits, length-set first used len)))
     ∙ ap (λ (xs : List ℕ). (xs ++ own) ++ rest) (take_more_set first used len (omega (arith, fits)))

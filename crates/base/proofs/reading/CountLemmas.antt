@@ -191,8 +191,12 @@ module _ {n low t : ℕ} {old new after : Reader} (f : Follows n low old new) (b
         ∙ ap (λ (j : ℕ). record old { jumps = j }) (sym (ap (λ (r : Reader). r.jumps) is));
     jumps = λ fits. omega (arith, ap (λ (r : Reader). r.jumps) is, f.jumps (omega (arith, fits)));
     all = set.insert f.all t;
-    len = omega (arith, f.len, set.len-insert nat_cmp_total f.all t
-        ∙ cond-false (set.contains f.all t) _ _ (f.fresh t below ∙ absent));
+    len = omega (
+      arith,
+      f.len,
+      set.len-insert nat_cmp_total f.all t
+          ∙ cond-false (set.contains f.all t) _ _ (f.fresh t below ∙ absent),
+    );
     near = λ q one. near_or (eq_by_cmp nat_cmp q t) refl (sym (has q) ∙ one);
     fresh = λ q less. has q ∙ fresh_or (eq_by_cmp nat_cmp q t) refl less;
   } where

@@ -1,5 +1,6 @@
 -- The targets of a name, which are kept one by one.
-use Rattle.std.proofs.Common.{◌≡◌, ℕ, ◌+◌, ◌-◌, ◌^◌, ◌<◌, ◌≤◌, List, [], ◌∷◌, ◌++◌, length, take, drop, Option, None, Some}
+use Rattle.std.proofs.Common.{◌≡◌, ℕ, ◌+◌, ◌-◌, ◌^◌, ◌<◌, ◌≤◌, List, [], ◌∷◌, ◌++◌, length, take, drop, Option, None}
+use Rattle.std.proofs.Common.{Some}
 use Rattle.std.proofs.Common.{Ok, Err, Bool, true, false, refl, ap, sym, ◌∙◌, subst, arith, length-append, length-drop}
 use Rattle.std.proofs.Common.{length-take, append-nil, min, inl, inr}
 use Rattle.std.specs.Prelude.{IfSome, is_some, unwrap_or, nat_eq, ◌||◌}
@@ -15,7 +16,8 @@ use Rattle.base.specs.declared.name.reading.NamePiece.{NamePiece}
 use Rattle.base.specs.reading.Names.{labels_at, part_at, pointer_to}
 use Rattle.base.specs.reading.Passing.{IsClosed, PassesKept, inserted, is_among, passed}
 use Rattle.base.specs.reading.Pieces.{IsPiece, IsRefusedIn, ending_of}
-use Rattle.base.specs.reading.Pointers.{AreKept, AreTooLong, Cache, CanKeep, Fit, IsAdded, IsKept, IsNewTarget, kept_after}
+use Rattle.base.specs.reading.Pointers.{AreKept, AreTooLong, Cache, CanKeep, Fit, IsAdded, IsKept, IsNewTarget}
+use Rattle.base.specs.reading.Pointers.{kept_after}
 use Rattle.base.specs.reading.Pointers.{targets_of}
 use Rattle.base.specs.reading.Reader.{Reader}
 use Rattle.base.specs.reading.Spelling.{Spelled}
@@ -24,7 +26,8 @@ use Rattle.base.proofs.reading.CountLemmas.{Follows, Follows-few, Follows-none, 
 use Rattle.base.proofs.reading.CountLemmas.{inserted-first, inserted-same, kept_at}
 use Rattle.base.proofs.reading.GatherLemmas.{Gathers, gathers_none, gathers_pointer, pointer_refused}
 use Rattle.base.proofs.reading.PassLemmas.{either, passed_below}
-use Rattle.base.proofs.reading.PieceLemmas.{gathers_piece, kept_piece, piece_end, piece_next, piece_passes, piece_refused}
+use Rattle.base.proofs.reading.PieceLemmas.{gathers_piece, kept_piece, piece_end, piece_next, piece_passes}
+use Rattle.base.proofs.reading.PieceLemmas.{piece_refused}
 use Rattle.base.proofs.reading.PieceLemmas.{piece_root, root_piece}
 
 -- the bytes from an offset on
@@ -222,7 +225,8 @@ module _ {old now : Reader} {first used t before : ℕ} {ws : List (ℕ × NameP
           leads = some;
           below = below;
         });
-        follows = subst (λ (n : ℕ). Follows n q old after) (omega (arith, length-append ws ((t, piece) ∷ []))) follows_next;
+        follows = subst (λ (n : ℕ). Follows n q old after)
+          (omega (arith, length-append ws ((t, piece) ∷ []))) follows_next;
         stands = subst (λ (xs : List ℕ). IsPiece xs (before + piece.len) next) (front ∙ ap (drop q) bytes_are) stands;
         next_near = near;
         inside = omega (arith, below, w.inside);
@@ -259,7 +263,8 @@ module _ {old now : Reader} {first used t before : ℕ} {ws : List (ℕ × NameP
       short = omega (arith, w.stands.short, length-take piece.len (drop t old.bytes));
     };
     passes = λ xs e h q in_it. absurd (false≢true
-        (ap (λ (qs : List ℕ). is_among qs q) (sym (piece_root old.bytes t w.inside refl w.stands none xs e h)) ∙ in_it));
+        (ap (λ (qs : List ℕ). is_among qs q) (sym (piece_root old.bytes t w.inside refl w.stands none xs e h))
+          ∙ in_it));
   }
 
   pub ends_kept : {q : ℕ} {items : List ℕ} → piece.pointer ≡ Some q → q < t → set.contains now.kept q ≡ true
@@ -270,10 +275,12 @@ module _ {old now : Reader} {first used t before : ℕ} {ws : List (ℕ × NameP
       let has_old : set.contains old.kept q ≡ true =
       ap (λ (k : set.FinSet nat_cmp). set.contains k q) (sym (kept_are_old w)) ∙ has in
       let closed_old : IsClosed old.bytes old.kept =
-      subst (IsClosed old.bytes) (kept_are_old w) (subst (λ (bs : List ℕ). IsClosed bs now.kept) (bytes_are w) closed) in
+      subst (IsClosed old.bytes) (kept_are_old w)
+        (subst (λ (bs : List ℕ). IsClosed bs now.kept) (bytes_are w) closed) in
       let own = take piece.len (drop t old.bytes) in
       record {
-        can = can_keep (rw some (below, (has_old, record { items = items; kept = kept; short = omega (arith, short) })));
+        can = can_keep (rw some (below, (has_old,
+          record { items = items; kept = kept; short = omega (arith, short) })));
         fit = record {
           items = own ++ items;
           kept = kept_piece old.bytes t w.inside refl w.stands some w.near below kept short;
@@ -308,8 +315,12 @@ module _ {old now : Reader} {first used t before : ℕ} {ws : List (ℕ × NameP
             (sym (inserted-same (passed h) old.kept (ends.passes xs e h)))
             ∙ sym (inserted-first t (passed h) old.kept);
         now_is = same ∙ ap (λ (r : Reader). record old { kept = r.kept; jumps = r.jumps }) (sym same);
-        count = omega (arith, ap set.len all, set.len-insert nat_cmp_total old.kept t
-            ∙ cond-false (set.contains old.kept t) _ _ w.absent);
+        count = omega (
+          arith,
+          ap set.len all,
+          set.len-insert nat_cmp_total old.kept t
+              ∙ cond-false (set.contains old.kept t) _ _ w.absent,
+        );
         few = λ counted.
             let few = Follows-few w.follows counted in
             (ap (λ (r : Reader). r.jumps) is ∙ few.0, few.1);
@@ -339,7 +350,8 @@ module _ {old now : Reader} {first used : ℕ} {ws : List (ℕ × NamePiece)} (o
         (λ one. either (nat_eq k.at t) (is_among (passed h) t) ⊥
         (λ same. omega (arith, w.below, eqb-true k.at t same))
         (λ in_it. omega (arith, w.below, passed_below h t in_it)) one)
-        (sym (ap (λ (s : set.FinSet nat_cmp). set.contains s t) (k.adds _ _ h) ∙ contains-inserted (k.at ∷ passed h) old.kept t)
+        (sym (ap (λ (s : set.FinSet nat_cmp). set.contains s t) (k.adds _ _ h)
+          ∙ contains-inserted (k.at ∷ passed h) old.kept t)
         ∙ has))
     | inr hasnt ↦ hasnt
   ]
@@ -386,8 +398,14 @@ module _ {old now : Reader} {first used : ℕ} {ws : List (ℕ × NamePiece)} (o
             all ∙ ap (λ (s : set.FinSet nat_cmp). set.insert s t) (k.adds r.labels r.end r.spelled
             ∙ ap (λ (qs : List ℕ). inserted qs old.kept) (sym r.passes)) ∙ sym (inserted-first t (passed h) old.kept);
         now_is = same ∙ ap (λ (r : Reader). record old { kept = r.kept; jumps = r.jumps }) (sym same);
-        count = omega (arith, k.count, ap length ws_are, length-append others ((t, piece) ∷ []), ap set.len all,
-            set.len-insert nat_cmp_total now.kept t ∙ cond-false (set.contains now.kept t) _ _ not_yet);
+        count = omega (
+          arith,
+          k.count,
+          ap length ws_are,
+          length-append others ((t, piece) ∷ []),
+          ap set.len all,
+          set.len-insert nat_cmp_total now.kept t ∙ cond-false (set.contains now.kept t) _ _ not_yet,
+        );
         few = λ counted. let few = k.few counted in (ap (λ (r : Reader). r.jumps) is ∙ few.0, few.1);
       }
 
@@ -402,10 +420,13 @@ kept_all {old} {now} {first} {used} k = go k.at k.before k.chain k.fit k.adds wh
   go : (at before : ℕ) → Chain old first used [] at before → Fit old.bytes at before
       → ((xs : List (List ℕ)) (e : ℕ) (h : Spelled old.bytes xs at at e) → now.kept ≡ inserted (at ∷ passed h) old.kept)
       → Fit old.bytes first used × IsAdded first old now
-  go at before no_more fit adds = (fit, record {
-    now = k.now_is;
-    kept = adds;
-    counts = λ counted.
-        let few = k.few counted in
-        record { exact = omega (arith, few.0, k.count); few = omega (arith, few.1, k.count) };
-  })
+  go at before no_more fit adds = (
+    fit,
+    record {
+      now = k.now_is;
+      kept = adds;
+      counts = λ counted.
+          let few = k.few counted in
+          record { exact = omega (arith, few.0, k.count); few = omega (arith, few.1, k.count) };
+    },
+  )

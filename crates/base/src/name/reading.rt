@@ -118,11 +118,7 @@ fn kept_labels<'d>(
 /// # Errors
 ///
 /// What reading on from there refuses.
-fn keep_target(
-    decoder: &mut BinDecoder<'_>,
-    target: u16,
-    used: usize,
-) -> Result<(), DecodeError>
+fn keep_target(decoder: &mut BinDecoder<'_>, target: u16, used: usize) -> Result<(), DecodeError>
     requires few { used ≤ MAX_LABELS }
     requires new { IsNewTarget decoder.old target }
     ensures read { MatchResult result (λ _. Fit decoder.old.bytes target used)

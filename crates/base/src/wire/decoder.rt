@@ -164,7 +164,8 @@ impl<'a> BinDecoder<'a> {
     {
         let most = self.buffer.len().min(POINTER_LIMIT) as u16;
         let bytes = &self.buffer[usize::from(target)..];
-        self.cache.insert(target, &bytes[..piece.len], piece.pointer, most)?;
+        self.cache
+            .insert(target, &bytes[..piece.len], piece.pointer, most)?;
         Ok(())
     }
 

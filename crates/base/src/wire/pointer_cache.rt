@@ -68,7 +68,7 @@ impl<'a> Model for PointerCache<'a> {
 
     ghost coded = { map.code coded_ℕ (coded_list coded_ℕ) };
 
-    ghost view = { λ c. 
+    ghost view = { λ c.
         cache_of c.copies.bytes c.copies.places.items (take c.count c.first) };
 
     ghost invariant = { λ c. ((c.count ≤ ROOM) × (length c.first ≡ ROOM))
@@ -99,11 +99,7 @@ fn place_at(places: &[usize], offset: usize) -> usize
 
 /// Where the labels at an offset are: it may have a place, or be one of the first targets.
 #[inline(always)]
-fn find_target<'a>(
-    places: &[usize],
-    first: &[Target<'a>],
-    offset: u16,
-) -> Option<TargetLabels<'a>>
+fn find_target<'a>(places: &[usize], first: &[Target<'a>], offset: u16) -> Option<TargetLabels<'a>>
     // Whatever was copied, they are those that are kept for the offset.
     ensures found { (copied : List ℕ) → option_map (target_labels copied) result
         ≡ map.get (cache_of copied places.now first.now) offset }
@@ -272,7 +268,11 @@ impl<'a> PointerCache<'a> {
             self.count += 1;
             return Ok(());
         }
-        reach(&mut self.copies.places, usize::from(offset), usize::from(most))?;
+        reach(
+            &mut self.copies.places,
+            usize::from(offset),
+            usize::from(most),
+        )?;
         let labels = joined(own, after, &first[..self.count], &mut self.copies)?;
         let place = place_of(labels, &mut self.copies.bytes)?;
         self.copies.places[usize::from(offset)] = place;

@@ -5,7 +5,8 @@ use Rattle.std.specs.Prelude.{OnErr}
 use Rattle.base.specs.reading.Tracks.{IsBounded}
 use Rattle.base.proofs.reading.GatherLemmas.{fails_is, gathers_none}
 use Rattle.base.proofs.reading.PieceLemmas.{piece_refused}
-use Rattle.base.proofs.reading.TargetLemmas.{Keeping, can_keep_next, ends_found, ends_none, first_bounded, keeping_bounded}
+use Rattle.base.proofs.reading.TargetLemmas.{Keeping, can_keep_next, ends_found, ends_none, first_bounded}
+use Rattle.base.proofs.reading.TargetLemmas.{keeping_bounded}
 use Rattle.base.proofs.reading.TargetLemmas.{keeping_last, keeping_next, kept_all, next_bounded, next_refused}
 use Rattle.base.proofs.reading.TargetLemmas.{walked_bounded, walked_first, walked_next, walked_nowhere}
 use Rattle.base.proofs.name.reading.keep_target.Goals as goal
@@ -52,7 +53,8 @@ returns-in_err-piece-2-clause-read c =
     let k = c.in_ok-kept_labels.ensures in
     let e = c.in_err-piece-2.field-0.0 in
     rw (p.1, p.2) (fails_is e _ (next_refused c.pieces.invariant c.in-Some.is (omega (arith, k.below, c.from.ensures))
-    (sym k.is ∙ sym c.is_some.ensures ∙ c.if-is_some.false) c.follow-in-Some.ensures.counted c.follow-in-Some.ensures.lent c.in_err-piece-2.ensures.piece))
+    (sym k.is ∙ sym c.is_some.ensures ∙ c.if-is_some.false) c.follow-in-Some.ensures.counted
+      c.follow-in-Some.ensures.lent c.in_err-piece-2.ensures.piece))
 
 pub returns-in_err-piece-2-clause-bounded : goal.returns-in_err-piece-2-clause-bounded
 returns-in_err-piece-2-clause-bounded c =
@@ -74,7 +76,8 @@ keep-requires c = elim c.match-piece.branch [
   | in-Some+in_ok-kept_labels+then-is_some w ↦
       let k = w.in_ok-kept_labels.ensures in
       (ends_found c.pieces.invariant w.in_ok-kept_labels.field-0 w.in-Some.is
-      (omega (arith, k.below, w.from.ensures)) k.is (sym w.is_some.ensures ∙ w.if-is_some.true) k.spelled k.short k.closed).can
+      (omega (arith, k.below, w.from.ensures)) k.is
+        (sym w.is_some.ensures ∙ w.if-is_some.true) k.spelled k.short k.closed).can
   | in_default w ↦ (ends_none c.pieces.invariant w.in_default.is).can
 ]
 
@@ -87,8 +90,10 @@ kept-init c = elim c.match-piece.branch [
   | in-Some+in_ok-kept_labels+then-is_some w ↦
       let k = w.in_ok-kept_labels.ensures in
       keeping_last c.pieces.invariant (ends_found c.pieces.invariant w.in_ok-kept_labels.field-0 w.in-Some.is
-      (omega (arith, k.below, w.from.ensures)) k.is (sym w.is_some.ensures ∙ w.if-is_some.true) k.spelled k.short k.closed) c.in_ok-keep.ensures.ok
-  | in_default w ↦ keeping_last c.pieces.invariant (ends_none c.pieces.invariant w.in_default.is) c.in_ok-keep.ensures.ok
+      (omega (arith, k.below, w.from.ensures)) k.is
+        (sym w.is_some.ensures ∙ w.if-is_some.true) k.spelled k.short k.closed) c.in_ok-keep.ensures.ok
+  | in_default w ↦ keeping_last c.pieces.invariant
+    (ends_none c.pieces.invariant w.in_default.is) c.in_ok-keep.ensures.ok
 ]
 
 pub keep-requires-in-Some-pop : goal.keep-requires-in-Some-pop

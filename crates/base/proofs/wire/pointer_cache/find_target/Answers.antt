@@ -5,7 +5,8 @@ use Rattle.base.proofs.wire.pointer_cache.find_target.Goals as goal
 
 pub returns-then-place-ne0-clause-found : goal.returns-then-place-ne0-clause-found
 returns-then-place-ne0-clause-found c = λ copied.
-    rest_is copied c.args.places.now c.args.first.now c.args.offset c.place_at-place.result _ (search rules) (search rules)
+    rest_is copied c.args.places.now c.args.first.now c.args.offset c.place_at-place.result _ (search rules)
+      (search rules)
 
 pub returns-then-target-offset-clause-found : goal.returns-then-target-offset-clause-found
 returns-then-target-offset-clause-found c = λ copied.

@@ -32,9 +32,13 @@ append_both-requires-clause-there c =
 pub append_both-requires-clause-short : goal.append_both-requires-clause-short
 append_both-requires-clause-short c =
     let old = c.args.copies.now in
-    omega (arith, c.requires.short, ap length (after_some c.args.own.now
-    (cache_of old.bytes old.places.items c.args.first.now) _ _ _ c.in-Some.is
-    (rw c.deref.ensures.value at c.in-Some-find_target.ensures.found old.bytes)))
+    omega (
+      arith,
+      c.requires.short,
+      ap length (after_some c.args.own.now
+          (cache_of old.bytes old.places.items c.args.first.now) _ _ _ c.in-Some.is
+          (rw c.deref.ensures.value at c.in-Some-find_target.ensures.found old.bytes)),
+    )
 
 pub returns-in_err-place-clause-longer : goal.returns-in_err-place-clause-longer
 returns-in_err-place-clause-longer c = longer_none _ _ c.in_err-place.ensures.err

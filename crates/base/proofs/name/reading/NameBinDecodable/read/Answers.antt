@@ -5,7 +5,8 @@ use Rattle.base.specs.reading.Pieces.{ending_of}
 use Rattle.base.specs.reading.Pointers.{AreTooLong}
 use Rattle.base.proofs.reading.GatherLemmas.{fails_is, gathers_none, pointer_fits, root_fits}
 use Rattle.base.proofs.reading.NameLemmas.{adds_kept, adds_root, name_read}
-use Rattle.base.proofs.reading.PieceLemmas.{gathers_own, piece_fits, piece_refused, reads_next, reads_nowhere, reads_root}
+use Rattle.base.proofs.reading.PieceLemmas.{gathers_own, piece_fits, piece_refused, reads_next, reads_nowhere}
+use Rattle.base.proofs.reading.PieceLemmas.{reads_root}
 use Rattle.base.proofs.reading.PieceLemmas.{wire_next}
 use Rattle.base.proofs.reading.ReadingLemmas.{name_from, name_refused}
 use Rattle.base.proofs.name.reading.NameBinDecodable.read.Goals as goal
@@ -40,7 +41,8 @@ move_to-requires-clause-inside c =
 pub invariant_of-result : goal.invariant_of-result
 invariant_of-result c =
     let old = c.args.decoder.now in
-    let inside : old.index ≤ length old.bytes = omega (arith, c.index-first.ensures.inside, c.index-first.ensures.value) in
+    let inside : old.index ≤ length old.bytes =
+      omega (arith, c.index-first.ensures.inside, c.index-first.ensures.value) in
     rw (c.in_ok-labels.ensures, c.rest-own.ensures)
     (gathers_own old.bytes old.index inside c.rest-own.ensures c.in_ok-piece.ensures.piece).wire
 
@@ -54,7 +56,8 @@ returns-in_default c =
     (adds_root old inside c.rest-own.ensures c.in_ok-piece.ensures.piece c.in_default.is) refl (λ counted. counted)
     (c.move_to.ensures ∙ ap (λ (i : ℕ). record old { index = i + c.in_ok-piece.piece.len + 1 }) at.value) in
     record {
-      read = rw (c.move_to.ensures, c.in_ok-labels.ensures, at.value, c.rest-own.ensures) (name_from _ _ _ _ read, refl);
+      read = rw (c.move_to.ensures, c.in_ok-labels.ensures, at.value, c.rest-own.ensures)
+        (name_from _ _ _ _ read, refl);
       passes = λ h. after.passes _ _ h;
       tracks = after.tracks;
     }
@@ -70,7 +73,8 @@ returns-in_err-kept-clause-read c =
     let e = c.in_err-kept.field-0.0 in
     let all : c.in_ok-piece.piece.len ≡ 0 + c.in_ok-piece.piece.len = omega arith in
     let nowhere = reads_nowhere old.bytes old.index (omega (arith, at.inside, at.value)) c.rest-own.ensures
-    c.in_ok-piece.ensures.piece c.in-Some.is (λ below. subst (AreTooLong old.bytes c.in-Some.target) all (k.refused (omega (arith, below, at.value)))) in
+    c.in_ok-piece.ensures.piece c.in-Some.is (λ below. subst (AreTooLong old.bytes c.in-Some.target) all
+      (k.refused (omega (arith, below, at.value)))) in
     rw (p.1, p.2) (fails_is e _ (name_refused old.bytes old.index e (nowhere ∙ ap Err (sym k.err))))
 
 pub read_following-requires : goal.read_following-requires

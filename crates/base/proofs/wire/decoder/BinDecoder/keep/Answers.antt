@@ -15,7 +15,8 @@ pub slice_bounds-insert-end : goal.slice_bounds-insert-end
 slice_bounds-insert-end c =
     let buffer = c.self.inside.buffer.now in
     let can = subst (λ (r : Reader). CanKeep r c.args.target c.args.piece) (sym c.self.view_is) c.requires in
-    rw (from_offset buffer _ c.args.target c.from.ensures) (sym (length-take-le c.args.piece.len (drop c.args.target buffer)
+    rw (from_offset buffer _ c.args.target c.from.ensures)
+      (sym (length-take-le c.args.piece.len (drop c.args.target buffer)
     (piece_fits can.stands)))
 
 pub insert-requires-clause-new : goal.insert-requires-clause-new

@@ -26,7 +26,8 @@ joined-requires-2-clause-short c =
     let made : IsMade c.args.self.now old.copies.bytes old.copies.places.items (take old.count old.first) =
     record { view = c.self.view_is; inside = c.self.invariant.1.0; there = c.self.invariant.1.1 } in
     let reached = made_reach made c.in_ok-reach.ensures.same in
-    subst (λ (m : Cache). length (c.args.own.now ++ kept_after m c.args.after) ≤ 254) (sym reached.view) c.requires.short
+    subst (λ (m : Cache). length (c.args.own.now ++ kept_after m c.args.after) ≤ 254)
+      (sym reached.view) c.requires.short
 
 pub joined-requires-2-clause-inside : goal.joined-requires-2-clause-inside
 joined-requires-2-clause-inside c =
@@ -81,8 +82,13 @@ invariant_of-self-2 c =
     let reached = made_reach made c.in_ok-reach.ensures.same in
     let more = made_longer reached c.joined-2.ensures.longer c.joined-2.ensures.same in
     let most = made_longer more c.place_of.ensures.longer refl in
-    let there : c.from-3.result < length c.joined-2.new.copies.places.items = omega (arith, c.in_ok-reach.ensures.there,
-    ap length c.joined-2.ensures.same, c.from.ensures, c.from-3.ensures) in
+    let there : c.from-3.result < length c.joined-2.new.copies.places.items = omega (
+      arith,
+      c.in_ok-reach.ensures.there,
+      ap length c.joined-2.ensures.same,
+      c.from.ensures,
+      c.from-3.ensures,
+    ) in
     let placed = made_place most c.from-3.result c.in_ok-place.place there c.in_ok-place.ensures.place.0 in
     (c.self.invariant.0, (placed.inside, placed.there))
 
@@ -94,10 +100,16 @@ returns-clause-ok c =
     let reached = made_reach made c.in_ok-reach.ensures.same in
     let more = made_longer reached c.joined-2.ensures.longer c.joined-2.ensures.same in
     let most = made_longer more c.place_of.ensures.longer refl in
-    let there : c.from-3.result < length c.joined-2.new.copies.places.items = omega (arith, c.in_ok-reach.ensures.there,
-    ap length c.joined-2.ensures.same, c.from.ensures, c.from-3.ensures) in
+    let there : c.from-3.result < length c.joined-2.new.copies.places.items = omega (
+      arith,
+      c.in_ok-reach.ensures.there,
+      ap length c.joined-2.ensures.same,
+      c.from.ensures,
+      c.from-3.ensures,
+    ) in
     let placed = made_place most c.from-3.result c.in_ok-place.place there c.in_ok-place.ensures.place.0 in
     placed.view
-    ∙ ap (λ (q : ℕ). map.insert c.args.self.now q (labels_from c.place_of.new.bytes c.in_ok-place.place)) c.from-3.ensures
+    ∙ ap (λ (q : ℕ). map.insert c.args.self.now q (labels_from c.place_of.new.bytes c.in_ok-place.place))
+      c.from-3.ensures
     ∙ ap (λ (xs : List ℕ). map.insert c.args.self.now c.args.offset xs) (c.in_ok-place.ensures.place.1
     ∙ c.in_ok-labels-2.ensures.ok ∙ ap (λ (m : Cache). c.args.own.now ++ kept_after m c.args.after) reached.view)
