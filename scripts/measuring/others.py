@@ -44,6 +44,13 @@ def build_ldns(folder):
     return f"{folder}/with_ldns"
 
 
+def build_server(copy):
+    """The name server in C, of a copy of the repository."""
+    run_or_end(["rt", "lib"], f"{copy}/crates/capi")
+    run_or_end(["make", "build/nameserver"], f"{copy}/bindings/c")
+    return f"{copy}/bindings/c/build/nameserver"
+
+
 def build_archive(copy, name="archive"):
     """The program of this name over the library for C, of a copy of the repository."""
     run_or_end(["rt", "lib"], f"{copy}/crates/capi")
