@@ -2,7 +2,7 @@ use Rattle.std.proofs.Common.{rules, ◌≡◌, [], ◌∷◌, ◌++◌, refl, a
 use Rattle.std.specs.BTreeMap.{BTreeMap, insert_entry, is_at}
 use Rattle.std.specs.Map.{lookup}
 use Rattle.std.specs.Prelude.{is_some, ⊤}
-use Rattle.base.specs.RrKey.{key_cmp}
+use Rattle.base.specs.RrKey.{key_cmp, key_of}
 use Rattle.base.specs.declared.rr_key.RrKey.{RrKey}
 use Rattle.base_data.specs.Kinds.{type_of_data}
 use Rattle.base_data.specs.declared.rdata.RData.{RData}
@@ -49,11 +49,12 @@ may_go_in c =
     elim c.if-eq.branch [
       | then-eq+in_ok-note w ↦
           let soa : is_soa (type_of_data c.args.entry.now.rdata) ≡ true = search rules in
+          let key = c.in_ok-key.ensures ∙ ap (key_of r.name) c.record_type.ensures in
           let unknown = subst (λ (k : RrKey). is_some (lookup (is_at (key_cmp k)) soas) ≡ false)
-          c.in_ok-key.ensures.value w.in_ok-note.ensures.refused in
+          key w.in_ok-note.ensures.refused in
           let is : c.if-eq.soas.entries ≡ insert_entry key_cmp soas (record_key r) tt =
           ap (λ (t : BTreeMap RrKey ⊤). t.entries) w.soas-is ∙ w.in_ok-note.ensures.ok
-          ∙ ap (λ (k : RrKey). insert_entry key_cmp soas k tt) c.in_ok-key.ensures.value in
+          ∙ ap (λ (k : RrKey). insert_entry key_cmp soas k tt) key in
           noted soas c.if-eq.soas.entries es r c.requires soa unknown is
       | else-eq w ↦
           let none : is_soa (type_of_data c.args.entry.now.rdata) ≡ false = search rules in
