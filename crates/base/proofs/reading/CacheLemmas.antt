@@ -3,7 +3,7 @@ use Rattle.std.proofs.Common.{◌≡◌, ◌≢◌, ℕ, zero, suc, ◌+◌, ◌
 use Rattle.std.proofs.Common.{length, take, drop, append_assoc}
 use Rattle.std.proofs.Common.{Some, None, refl, ap, sym, ◌∙◌, subst, arith, length-append, length-drop, length-take}
 use Rattle.std.proofs.Common.{inl, inr}
-use Rattle.std.specs.Prelude.{All, Option, unwrap_or, get_or, nat_eq, nat_lt, replicate, slice_set, ◌==◌}
+use Rattle.std.specs.Prelude.{All, Option, option_map, unwrap_or, get_or, nat_eq, nat_lt, replicate, slice_set, ◌==◌}
 use Rattle.std.specs.Cmp.{nat_cmp_total, unsigned_tied}
 use Rattle.std.specs.FinMap as map
 use Rattle.std.specs.List.{slice_range}
@@ -11,7 +11,7 @@ use Rattle.std.specs.Option.{option_or}
 use Rattle.std.specs.Ordering.{eq_by_cmp, nat_cmp}
 use Rattle.std.proofs.lemmas.Bool.{cases_Bool, cond-true, cond-false, eqb-true, eqb-false, eq-eqb, ne_eqb}
 use Rattle.std.proofs.lemmas.Bool.{ltb-true, ltb-false}
-use Rattle.std.proofs.lemmas.List.{append-nil, drop-append-le, take-append-le, take_all, drop_all, drop-drop}
+use Rattle.std.proofs.lemmas.List.{drop-append-le, take-append-le, take_all, drop_all, drop-drop}
 use Rattle.std.proofs.lemmas.List.{get_or_append_left}
 use Rattle.std.proofs.lemmas.List.{get_or-append_right, get_or_past, get_or_default, get_or-set_same, get_or-set_other}
 use Rattle.std.proofs.lemmas.List.{length-set, map_push, take_more_set}
@@ -23,7 +23,7 @@ use Rattle.base.specs.declared.wire.pointer_cache.TargetLabels.TheVariants.{Lent
 use Rattle.base.specs.declared.wire.pointer_cache.Target.{Target}
 use Rattle.base.specs.reading.Pointers.{AreThere, Cache, copied_bytes, IsInside, IsLonger, IsTargetThere, cache_of}
 use Rattle.base.specs.reading.Pointers.{entries_from, target_entries, target_labels, labels_from, labels_in, len_at}
-use Rattle.base.specs.reading.Pointers.{kept_after, with_copied}
+use Rattle.base.specs.reading.Pointers.{kept_after, rest_labels}
 
 -- ---- a place whose labels are there keeps them, where more is copied after
 
@@ -326,26 +326,26 @@ set_inside copied others t place there inside all k d less =
 -- these are the parts of a cache
 pub record IsMade (cache : Cache) (copied places : List ℕ) (first : List Target) : Type 0 where
   pub view : cache_of copied places first ≡ cache
-  pub inside : All (IsInside copied) places
-  pub there : All (IsTargetThere copied) first
+  pub are : All (IsInside copied) places × All (IsTargetThere copied) first
 
 module _ {cache : Cache} {copied places : List ℕ} {first : List Target} (made : IsMade cache copied places first) where
   -- each offset has the place that it had
   pub made_reach : {new : List ℕ} → ((q : ℕ) → get_or new q 0 ≡ get_or places q 0) → IsMade cache copied new first
   made_reach {new} same = record {
     view = same_places copied places new first same ∙ made.view;
-    inside = same_inside copied places new same made.inside;
-    there = made.there;
+    are = (same_inside copied places new same made.are.0, made.are.1);
   }
 
   -- more is copied
-  pub made_longer : {now new : List ℕ} → IsLonger copied now → new ≡ places → IsMade cache now new first
-  made_longer longer same = rw (same, longer.is) (record {
-    view = cache_stays copied longer.more places first made.inside made.there ∙ made.view;
-    inside = All-weaker (IsInside copied) (IsInside (copied ++ longer.more))
-        (λ p is. inside_stays copied longer.more p is) places made.inside;
-    there = All-weaker (IsTargetThere copied) (IsTargetThere (copied ++ longer.more))
-        (λ t is. there_stays copied longer.more t.labels is) first made.there;
+  pub made_longer : {now : List ℕ} → IsLonger copied now → IsMade cache now places first
+  made_longer longer = rw longer.is (record {
+    view = cache_stays copied longer.more places first made.are.0 made.are.1 ∙ made.view;
+    are = (
+      All-weaker (IsInside copied) (IsInside (copied ++ longer.more))
+          (λ p is. inside_stays copied longer.more p is) places made.are.0,
+      All-weaker (IsTargetThere copied) (IsTargetThere (copied ++ longer.more))
+          (λ t is. there_stays copied longer.more t.labels is) first made.are.1,
+    );
   })
 
   none_at : (t : ℕ) → map.get cache t ≡ None → map.get (cache_of copied places first) t ≡ None
@@ -357,8 +357,7 @@ module _ {cache : Cache} {copied places : List ℕ} {first : List Target} (made 
   made_place t place there is = record {
     view = place_more copied places first t place there is.0
         ∙ ap (λ (m : Cache). map.insert m t (labels_from copied place)) made.view;
-    inside = set_inside copied places t place there is.1 made.inside;
-    there = made.there;
+    are = (set_inside copied places t place there is.1 made.are.0, made.are.1);
   }
 
 -- one more among the first
@@ -374,8 +373,7 @@ made_first {cache} {copied} {places} first count made t labels none less is =
     rw more (record {
       view = first_more copied places (take count first) t labels (none_at made t none)
           ∙ ap (λ (m : Cache). map.insert m t (target_labels copied labels)) made.view;
-      inside = made.inside;
-      there = All-push (IsTargetThere copied) (take count first) one made.there is;
+      are = (made.are.0, All-push (IsTargetThere copied) (take count first) one made.are.1 is);
     })
 
 -- what is kept for an offset, by where it is
@@ -387,28 +385,8 @@ rest_is copied places first q place r at found = found
     ∙ ap (λ (p : ℕ). option_or (labels_in copied p) (map.find nat_cmp q (target_entries copied first))) at
     ∙ sym (get_cache copied places first q)
 
--- a place is that of labels which are there
-pub place_inside : (copied places : List ℕ) (q place : ℕ) → place ≡ get_or places q 0 → All (IsInside copied) places
-    → IsInside copied place
-place_inside copied places q place at all = subst (IsInside copied) (sym at) (inside_or copied places all q)
-
-pub copied_there : (copied labels : List ℕ) (place : ℕ) → place ≡ length copied + 1
-    → AreThere (with_copied copied labels) (Copied place)
-copied_there copied labels place is =
-    (λ none. omega (arith, none), subst (IsInside (with_copied copied labels)) (sym is) (new_inside copied labels))
-
-pub longer_copied : (copied now labels : List ℕ) → now ≡ with_copied copied labels → IsLonger copied now
-longer_copied copied now labels is = record { more = length labels ∷ labels; is = is }
-
-pub longer_none : (copied now : List ℕ) → now ≡ copied → IsLonger copied now
-longer_none copied now is = record { more = []; is = is ∙ sym (append-nil copied) }
-
--- what is kept for an offset where some labels are found, and where none are
-pub after_some : (own : List ℕ) (cache : Cache) (after : Option ℕ) (q : ℕ) (labels : List ℕ) → after ≡ Some q
-    → Some labels ≡ map.get cache q → own ++ labels ≡ own ++ kept_after cache after
-after_some own cache after q labels is found = rw is (ap (λ (o : Option (List ℕ)). own ++ unwrap_or o []) found)
-
-pub after_none : (own : List ℕ) (cache : Cache) (after : Option ℕ) (q : ℕ) → after ≡ Some q
-    → None ≡ map.get cache q → own ≡ own ++ kept_after cache after
-after_none own cache after q is found = rw is (sym (append-nil own)
-    ∙ ap (λ (o : Option (List ℕ)). own ++ unwrap_or o []) found)
+-- what was found for an offset is what is kept
+pub rest_found : (copied : List ℕ) (cache : Cache) (q : ℕ) (rest : Option TargetLabels)
+    → option_map (target_labels copied) rest ≡ map.get cache q → rest_labels copied rest ≡ kept_after cache (Some q)
+rest_found copied cache q None found = ap (λ (o : Option (List ℕ)). unwrap_or o []) found
+rest_found copied cache q (Some labels) found = ap (λ (o : Option (List ℕ)). unwrap_or o []) found

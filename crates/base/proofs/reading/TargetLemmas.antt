@@ -121,17 +121,18 @@ pub record Walked (old now : Reader) (first used : ℕ) (ws : List (ℕ × NameP
   pub near : t < 16384
   pub absent : set.contains old.kept t ≡ false
 
--- The labels at a target are kept, and those of these pieces are not.
-pub record Keeping (old now : Reader) (first used : ℕ) (ws : List (ℕ × NamePiece)) : Type 0 where
-  pub at : ℕ
+-- The piece at t can be kept, and then those that wait for it.
+pub record Keeping (old now : Reader) (first used : ℕ) (ws : List (ℕ × NamePiece)) (t : ℕ)
+    (piece : NamePiece) : Type 0 where
   pub before : ℕ
   pub n : ℕ
-  pub chain : Chain old first used ws at before
-  pub fit : Fit old.bytes at before
-  pub adds : (xs : List (List ℕ)) (e : ℕ) (h : Spelled old.bytes xs at at e)
-      → now.kept ≡ inserted (at ∷ passed h) old.kept
+  pub chain : Chain old first used ws t before
+  pub can : CanKeep now t piece
+  pub fit : Fit old.bytes t before
+  pub adds : (xs : List (List ℕ)) (e : ℕ) (h : Spelled old.bytes xs t t e)
+      → set.insert now.kept t ≡ inserted (t ∷ passed h) old.kept
   pub now_is : now ≡ record old { kept = now.kept; jumps = now.jumps }
-  pub count : set.len now.kept + length ws ≡ set.len old.kept + n
+  pub count : set.len now.kept + length ws + 1 ≡ set.len old.kept + n
   pub few : IsCounted old → (now.jumps ≡ set.len old.kept + n) × (set.len old.kept + n ≤ 16384)
 
 -- ---- the pieces are read one after another
@@ -302,34 +303,21 @@ module _ {old now : Reader} {first used t before : ℕ} {ws : List (ℕ × NameP
   ends_found None some below is has kept short closed = absurd (false≢true has)
   ends_found (Some labels) some below is has kept short closed = ends_kept some below (sym is) kept short closed
 
-  -- once it is kept
-  pub keeping_last : {after : Reader} → Ends old now t before piece
-      → after ≡ record now { kept = set.insert now.kept t } → Keeping old after first used ws
-  keeping_last {after} ends is =
-      let all : after.kept ≡ set.insert old.kept t = ap (λ (r : Reader). r.kept) is
-      ∙ ap (λ (k : set.FinSet nat_cmp). set.insert k t) (kept_are_old w) in
-      let same : after ≡ record old { kept = set.insert now.kept t; jumps = now.jumps } = is
-      ∙ ap (λ (r : Reader). record r { kept = set.insert now.kept t }) w.follows.now in
-      record {
-        at = t;
-        before = before;
-        n = length ws + 1;
-        chain = w.chain;
-        fit = ends.fit;
-        adds = λ xs e h. all ∙ ap (λ (k : set.FinSet nat_cmp). set.insert k t)
-            (sym (inserted-same (passed h) old.kept (ends.passes xs e h)))
-            ∙ sym (inserted-first t (passed h) old.kept);
-        now_is = same ∙ ap (λ (r : Reader). record old { kept = r.kept; jumps = r.jumps }) (sym same);
-        count = omega (
-          arith,
-          ap set.len all,
-          set.len-insert nat_cmp_total old.kept t
-              ∙ cond-false (set.contains old.kept t) _ _ w.absent,
-        );
-        few = λ counted.
-            let few = Follows-few w.follows counted in
-            (ap (λ (r : Reader). r.jumps) is ∙ few.0, few.1);
-      }
+  pub keeping_first : Ends old now t before piece → Keeping old now first used ws t piece
+  keeping_first ends = record {
+    before = before;
+    n = length ws + 1;
+    chain = w.chain;
+    can = ends.can;
+    fit = ends.fit;
+    adds = λ xs e h. ap (λ (k : set.FinSet nat_cmp). set.insert k t)
+        (kept_are_old w ∙ sym (inserted-same (passed h) old.kept (ends.passes xs e h)))
+        ∙ sym (inserted-first t (passed h) old.kept);
+    now_is = w.follows.now ∙ ap (λ (k : set.FinSet nat_cmp). record old { kept = k; jumps = now.jumps })
+        (sym (kept_are_old w));
+    count = omega (arith, ap set.len (kept_are_old w));
+    few = Follows-few w.follows;
+  }
 
 -- ---- the pieces before it, from the last to the first
 
@@ -338,100 +326,122 @@ or_same true b c is = refl
 or_same false true c is = refl
 or_same false false c is = absurd (false≢true is)
 
-module _ {old now : Reader} {first used : ℕ} {ws : List (ℕ × NamePiece)} (others : List (ℕ × NamePiece)) (t : ℕ)
-    (piece : NamePiece) (k : Keeping old now first used ws) (ws_are : ws ≡ others ++ (t, piece) ∷ []) where
-  last : Last old first used others t piece k.at k.before
-  last = chain_pop others (subst (λ (xs : List (ℕ × NamePiece)). Chain old first used xs k.at k.before) ws_are k.chain)
-
-  w : Waits old t last.before piece k.at
-  w = last.waits
-
-  not_yet : set.contains now.kept t ≡ false
-  not_yet = elim (cases_Bool (set.contains now.kept t)) [
-    | inl has ↦
-        let h = k.fit.kept.spelled in
-        absurd (either (set.contains old.kept t) (is_among (k.at ∷ passed h) t) ⊥
-        (λ was. false≢true (sym w.absent ∙ was))
-        (λ one. either (nat_eq k.at t) (is_among (passed h) t) ⊥
-        (λ same. omega (arith, w.below, eqb-true k.at t same))
-        (λ in_it. omega (arith, w.below, passed_below h t in_it)) one)
-        (sym (ap (λ (s : set.FinSet nat_cmp). set.contains s t) (k.adds _ _ h)
-        ∙ contains-inserted (k.at ∷ passed h) old.kept t)
-        ∙ has))
-    | inr hasnt ↦ hasnt
-  ]
-
-  has_next : set.contains now.kept k.at ≡ true
-  has_next =
-      let h = k.fit.kept.spelled in
-      ap (λ (s : set.FinSet nat_cmp). set.contains s k.at) (k.adds _ _ h)
-      ∙ contains-inserted (k.at ∷ passed h) old.kept k.at
-      ∙ or_same (set.contains old.kept k.at) (nat_eq k.at k.at) (is_among (passed h) k.at) (eq-eqb k.at k.at refl)
-
-  pub can_keep_next : CanKeep now t piece
-  can_keep_next =
-      let bytes : now.bytes ≡ old.bytes = ap (λ (r : Reader). r.bytes) k.now_is in
-      let fit : Fit old.bytes k.at piece.len = fit_less k.fit (omega (arith, last.sum)) in
-      record {
-        near = w.near;
-        inside = rw bytes w.inside;
-        absent = not_yet;
-        stands = rw bytes (piece_alone w.stands);
-        after = rw (w.leads, bytes) (w.below, (has_next, fit));
-      }
-
-  pub keeping_next : {after : Reader} → after ≡ record now { kept = set.insert now.kept t }
-      → Keeping old after first used others
-  keeping_next {after} is =
-      let own = take piece.len (drop t old.bytes) in
-      let all : after.kept ≡ set.insert now.kept t = ap (λ (r : Reader). r.kept) is in
-      let same : after ≡ record old { kept = set.insert now.kept t; jumps = now.jumps } = is
-      ∙ ap (λ (r : Reader). record r { kept = set.insert now.kept t }) k.now_is in
-      let total : last.before + piece.len + length k.fit.items ≤ 254 = omega (arith, last.sum, k.fit.short) in
-      record {
-        at = t;
-        before = last.before;
-        n = k.n;
-        chain = last.chain;
-        fit = record {
-          items = own ++ k.fit.items;
-          kept = kept_piece old.bytes t w.inside refl w.stands w.leads w.near w.below k.fit.kept total;
-          short = omega (arith, total, length-append own k.fit.items, length-take piece.len (drop t old.bytes));
-        };
-        adds = λ xs e h.
-            let r = piece_next old.bytes t w.inside refl w.stands w.leads xs e h in
-            all ∙ ap (λ (s : set.FinSet nat_cmp). set.insert s t) (k.adds r.labels r.end r.spelled
-            ∙ ap (λ (qs : List ℕ). inserted qs old.kept) (sym r.passes)) ∙ sym (inserted-first t (passed h) old.kept);
-        now_is = same ∙ ap (λ (r : Reader). record old { kept = r.kept; jumps = r.jumps }) (sym same);
-        count = omega (
-          arith,
-          k.count,
-          ap length ws_are,
-          length-append others ((t, piece) ∷ []),
-          ap set.len all,
-          set.len-insert nat_cmp_total now.kept t ∙ cond-false (set.contains now.kept t) _ _ not_yet,
-        );
-        few = λ counted. let few = k.few counted in (ap (λ (r : Reader). r.jumps) is ∙ few.0, few.1);
-      }
-
--- all are kept
-pub keeping_bounded : {old now : Reader} {first used : ℕ} {ws : List (ℕ × NamePiece)} → Keeping old now first used ws
-    → IsBounded old now
+pub keeping_bounded : {old now : Reader} {first used t : ℕ} {ws : List (ℕ × NamePiece)} {piece : NamePiece}
+    → Keeping old now first used ws t piece → IsBounded old now
 keeping_bounded k counted = let few = k.few counted in omega (arith, few.0, few.1)
 
-pub kept_all : {old now : Reader} {first used : ℕ} → Keeping old now first used []
-    → Fit old.bytes first used × IsAdded first old now
-kept_all {old} {now} {first} {used} k = go k.at k.before k.chain k.fit k.adds where
-  go : (at before : ℕ) → Chain old first used [] at before → Fit old.bytes at before
-      → ((xs : List (List ℕ)) (e : ℕ) (h : Spelled old.bytes xs at at e) → now.kept ≡ inserted (at ∷ passed h) old.kept)
-      → Fit old.bytes first used × IsAdded first old now
-  go at before no_more fit adds = (
-    fit,
-    record {
-      now = k.now_is;
-      kept = adds;
-      counts = λ counted.
-          let few = k.few counted in
-          record { exact = omega (arith, few.0, k.count); few = omega (arith, few.1, k.count) };
-    },
+-- once it is kept
+module _ {old now after : Reader} {first used t : ℕ} {ws : List (ℕ × NamePiece)} {piece : NamePiece}
+    (k : Keeping old now first used ws t piece) (is : after ≡ record now { kept = set.insert now.kept t }) where
+  all : after.kept ≡ set.insert now.kept t
+  all = ap (λ (r : Reader). r.kept) is
+
+  adds_all : (xs : List (List ℕ)) (e : ℕ) (h : Spelled old.bytes xs t t e)
+      → after.kept ≡ inserted (t ∷ passed h) old.kept
+  adds_all xs e h = all ∙ k.adds xs e h
+
+  after_is : after ≡ record old { kept = after.kept; jumps = after.jumps }
+  after_is =
+      let same : after ≡ record old { kept = set.insert now.kept t; jumps = now.jumps } = is
+      ∙ ap (λ (r : Reader). record r { kept = set.insert now.kept t }) k.now_is in
+      same ∙ ap (λ (r : Reader). record old { kept = r.kept; jumps = r.jumps }) (sym same)
+
+  count_all : set.len after.kept + length ws ≡ set.len old.kept + k.n
+  count_all = omega (
+    arith,
+    k.count,
+    ap set.len all,
+    set.len-insert nat_cmp_total now.kept t ∙ cond-false (set.contains now.kept t) _ _ k.can.absent,
   )
+
+  few_all : IsCounted old → (after.jumps ≡ set.len old.kept + k.n) × (set.len old.kept + k.n ≤ 16384)
+  few_all counted = let few = k.few counted in (ap (λ (r : Reader). r.jumps) is ∙ few.0, few.1)
+
+  module _ (others : List (ℕ × NamePiece)) (above : ℕ) (longer : NamePiece)
+      (ws_are : ws ≡ others ++ (above, longer) ∷ []) where
+    last : Last old first used others above longer t k.before
+    last = chain_pop others (subst (λ (xs : List (ℕ × NamePiece)). Chain old first used xs t k.before) ws_are k.chain)
+
+    w : Waits old above last.before longer t
+    w = last.waits
+
+    not_yet : set.contains after.kept above ≡ false
+    not_yet = elim (cases_Bool (set.contains after.kept above)) [
+      | inl has ↦
+          let h = k.fit.kept.spelled in
+          absurd (either (set.contains old.kept above) (is_among (t ∷ passed h) above) ⊥
+          (λ was. false≢true (sym w.absent ∙ was))
+          (λ one. either (nat_eq t above) (is_among (passed h) above) ⊥
+          (λ same. omega (arith, w.below, eqb-true t above same))
+          (λ in_it. omega (arith, w.below, passed_below h above in_it)) one)
+          (sym (ap (λ (s : set.FinSet nat_cmp). set.contains s above) (adds_all _ _ h)
+          ∙ contains-inserted (t ∷ passed h) old.kept above)
+          ∙ has))
+      | inr hasnt ↦ hasnt
+    ]
+
+    has_next : set.contains after.kept t ≡ true
+    has_next =
+        let h = k.fit.kept.spelled in
+        ap (λ (s : set.FinSet nat_cmp). set.contains s t) (adds_all _ _ h)
+        ∙ contains-inserted (t ∷ passed h) old.kept t
+        ∙ or_same (set.contains old.kept t) (nat_eq t t) (is_among (passed h) t) (eq-eqb t t refl)
+
+    pub keeping_next : Keeping old after first used others above longer
+    keeping_next =
+        let bytes : after.bytes ≡ old.bytes = ap (λ (r : Reader). r.bytes) after_is in
+        let own = take longer.len (drop above old.bytes) in
+        let total : last.before + longer.len + length k.fit.items ≤ 254 = omega (arith, last.sum, k.fit.short) in
+        record {
+          before = last.before;
+          n = k.n;
+          chain = last.chain;
+          can = record {
+            near = w.near;
+            inside = rw bytes w.inside;
+            absent = not_yet;
+            stands = rw bytes (piece_alone w.stands);
+            after = rw (w.leads, bytes) (
+              w.below,
+              (
+                has_next,
+                fit_less k.fit (omega (arith, last.sum)),
+              ),
+            );
+          };
+          fit = record {
+            items = own ++ k.fit.items;
+            kept = kept_piece old.bytes above w.inside refl w.stands w.leads w.near w.below k.fit.kept total;
+            short = omega (arith, total, length-append own k.fit.items, length-take longer.len (drop above old.bytes));
+          };
+          adds = λ xs e h.
+              let r = piece_next old.bytes above w.inside refl w.stands w.leads xs e h in
+              ap (λ (s : set.FinSet nat_cmp). set.insert s above) (adds_all r.labels r.end r.spelled
+              ∙ ap (λ (qs : List ℕ). inserted qs old.kept) (sym r.passes))
+              ∙ sym (inserted-first above (passed h) old.kept);
+          now_is = after_is;
+          count = omega (arith, count_all, ap length ws_are, length-append others ((above, longer) ∷ []));
+          few = few_all;
+        }
+
+  -- the labels there are those of a target, which is kept with all that it leads to
+  pub kept_all : ws ≡ [] → Fit old.bytes first used × IsAdded first old after
+  kept_all none = go t k.before (subst (λ (xs : List (ℕ × NamePiece)). Chain old first used xs t k.before) none k.chain)
+      k.fit adds_all where
+        go : (at before : ℕ) → Chain old first used [] at before → Fit old.bytes at before
+            → ((xs : List (List ℕ)) (e : ℕ) (h : Spelled old.bytes xs at at e)
+            → after.kept ≡ inserted (at ∷ passed h) old.kept)
+            → Fit old.bytes first used × IsAdded first old after
+        go at before no_more fit adds = (
+          fit,
+          record {
+            now = after_is;
+            kept = adds;
+            counts = λ counted.
+                let few = few_all counted in
+                record {
+                  exact = omega (arith, few.0, count_all, ap length none);
+                  few = omega (arith, few.1, count_all, ap length none);
+                };
+          },
+        )

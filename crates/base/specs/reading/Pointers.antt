@@ -13,6 +13,7 @@ use Rattle.base.specs.declared.name.reading.NamePiece.{NamePiece}
 use Rattle.base.specs.declared.wire.pointer_cache.TargetLabels.{TargetLabels}
 use Rattle.base.specs.declared.wire.pointer_cache.TargetLabels.TheVariants.{Lent, Copied}
 use Rattle.base.specs.declared.wire.pointer_cache.Target.{Target}
+use Rattle.base.specs.declared.wire.pointer_cache.FirstTargets.{FirstTargets}
 use Rattle.base.specs.names.Labels.{IsWire, labels_of}
 use Rattle.base.specs.reading.Passing.{inserted, passed}
 use Rattle.base.specs.reading.Pieces.{IsPiece}
@@ -97,6 +98,11 @@ abbrev pub target_labels : List ℕ → TargetLabels → List ℕ
 target_labels copied (Lent labels) = labels.now
 target_labels copied (Copied place) = labels_from copied place
 
+-- the same, and none of no target
+abbrev pub rest_labels : List ℕ → Option TargetLabels → List ℕ
+rest_labels copied None = []
+rest_labels copied (Some labels) = target_labels copied labels
+
 -- those that are lent are a name's, and those that are copied have a place, and are there
 abbrev pub AreThere : List ℕ → TargetLabels → Type 0
 AreThere copied (Lent labels) = length labels.now ≤ MAX_LABELS
@@ -110,6 +116,10 @@ IsTargetThere copied target = AreThere copied target.labels
 pub record IsLonger (old new : List ℕ) : Type 0 where
   pub more : List ℕ
   pub is : new ≡ old ++ more
+
+-- those of the first targets that are in use
+abbrev pub first_of : FirstTargets → List Target
+first_of first = take first.count first.all
 
 -- targets with their labels
 abbrev pub target_entries : List ℕ → List Target → List (ℕ × List ℕ)

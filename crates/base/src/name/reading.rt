@@ -113,11 +113,12 @@ fn kept_labels<'d>(
 }
 
 /// Keeps the labels at an offset that a pointer leads to, after as many bytes of labels as are used. Those that the
-/// pieces there lead to are kept before them.
+/// pieces there lead to are kept before them. It isn't copied into each `read`, since few names come here.
 ///
 /// # Errors
 ///
 /// What reading on from there refuses.
+#[inline(never)]
 fn keep_target(decoder: &mut BinDecoder<'_>, target: u16, used: usize) -> Result<(), DecodeError>
     requires few { used ≤ MAX_LABELS }
     requires new { IsNewTarget decoder.old target }
@@ -141,45 +142,13 @@ fn keep_target(decoder: &mut BinDecoder<'_>, target: u16, used: usize) -> Result
         before = all;
         piece = read_piece(decoder.follow(at), before)?;
     }
-    decoder.keep(at, piece)?;
-    'kept: while let Some((at, piece)) = waiting.pop() {
+    'kept: while let Some((above, longer)) = waiting.pop() {
         decoder.keep(at, piece)?;
+        at = above;
+        piece = longer;
     }
+    decoder.keep(at, piece)?;
     Ok(())
-}
-
-/// Reads a name whose own piece ends in a pointer to labels that aren't kept yet.
-///
-/// # Errors
-///
-/// What `read` refuses.
-#[tactic(auto, unfolding(crate::specs::reading::Names::name_at))]
-fn read_following(
-    decoder: &mut BinDecoder<'_>,
-    own: &[u8],
-    piece: NamePiece,
-    target: u16,
-) -> Result<Name, DecodeError>
-    requires own { own.now ≡ drop decoder.old.index decoder.old.bytes }
-    requires piece { IsPiece own.now 0 piece }
-    requires leads { piece.pointer ≡ Some target }
-    requires below { target < decoder.old.index }
-    requires new { IsNewTarget decoder.old target }
-    // These are as of every name: see `read`.
-    ensures read { Reads (λ x. x) decoder.old decoder.new result
-        (name_at decoder.old.bytes decoder.old.index) }
-    ensures passes { IfOk result
-        (λ n. (h : Spelled decoder.old.bytes n.labels decoder.old.index decoder.old.index
-        decoder.new.index)
-        → decoder.new.kept ≡ set.union decoder.old.kept (set.from_list (passed h))) }
-    ensures tracks { Tracks (λ _. decoder.old.index ∷ []) decoder.old decoder.new result }
-{
-    let end = decoder.index() + piece.len + 2;
-    keep_target(decoder, target, piece.len)?;
-    let kept = decoder.labels_at(target).unwrap();
-    let labels = Labels::from_front_and(decoder.allocator(), own, piece.len, kept, true)?;
-    decoder.move_to(end);
-    Ok(Name { labels })
 }
 
 impl BinDecodable for Name {
@@ -208,19 +177,22 @@ impl BinDecodable for Name {
         // The same, said as of every read: see `BinDecodable::read`.
         ensures tracks { Tracks (λ _. decoder.old.index ∷ []) decoder.old decoder.new result }
     {
-        let first = decoder.index();
+        let alloc = decoder.allocator();
+        let start = decoder.index();
         let own = decoder.rest();
         let piece = read_piece(own, 0)?;
         let Some(target) = piece.pointer else {
-            let labels = Labels::from_front(decoder.allocator(), own, piece.len, true)?;
-            decoder.move_to(first + piece.len + 1);
+            let labels = Labels::from_front(alloc, own, piece.len, true)?;
+            decoder.move_to(start + piece.len + 1);
             return Ok(Name { labels });
         };
-        let Some(kept) = kept_labels(decoder, target, first, piece.len)? else {
-            return read_following(decoder, own, piece, target);
-        };
-        let labels = Labels::from_front_and(decoder.allocator(), own, piece.len, kept, true)?;
-        decoder.move_to(first + piece.len + 2);
-        Ok(Name { labels })
+        'look: loop {
+            if let Some(kept) = kept_labels(decoder, target, start, piece.len)? {
+                let labels = Labels::from_front_and(alloc, own, piece.len, kept, true)?;
+                decoder.move_to(start + piece.len + 2);
+                return Ok(Name { labels });
+            }
+            keep_target(decoder, target, piece.len)?;
+        }
     }
 }

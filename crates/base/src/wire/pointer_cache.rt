@@ -4,9 +4,10 @@ ghost use Rattle.base.specs.declared.limits.TheConstants.{MAX_LABELS};
 ghost use Rattle.std.specs.Prelude.{◌≡◌, ◌≢◌, ℕ, List, ◌+◌, ◌++◌, ◌<◌, ◌≤◌, None, Some, All, length, get_or, IfOk, IfSome, OnErr, OnOk, option_map};
 ghost use Rattle.std.specs.FinMap as map;
 ghost use Rattle.base.specs.declared.wire.pointer_cache.TargetLabels.TheVariants.{Copied};
+ghost use Rattle.base.specs.declared.wire.pointer_cache.TheConstants.{ROOM};
 ghost use Rattle.std.specs.Option.{option_or};
 ghost use Rattle.std.specs.Ordering.{nat_cmp};
-ghost use Rattle.base.specs.reading.Pointers.{labels_from, labels_in, target_entries, AreThere, IsInside, IsLonger, IsTargetThere, cache_of, kept_after, with_copied, labels_now, target_labels};
+ghost use Rattle.base.specs.reading.Pointers.{labels_from, labels_in, target_entries, first_of, AreThere, IsInside, IsLonger, IsTargetThere, cache_of, kept_after, rest_labels, with_copied, labels_now, target_labels};
 
 mod copied;
 
@@ -37,6 +38,13 @@ struct Target<'a> {
     labels: TargetLabels<'a>,
 }
 
+/// The first targets. What stands after them in the array has no meaning.
+#[derive(Clone, Copy)]
+struct FirstTargets<'a> {
+    count: usize,
+    all: [Target<'a>; ROOM],
+}
+
 /// Labels that were copied.
 #[derive(Drop)]
 struct Copies {
@@ -50,18 +58,16 @@ struct Copies {
 /// pointer can name.
 #[derive(Drop)]
 pub(crate) struct PointerCache<'a> {
-    count: usize,
-    /// The first targets. What stands after them in the array has no meaning.
-    first: [Target<'a>; ROOM],
+    first: FirstTargets<'a>,
     copies: Copies,
 }
 
 impl<'a> Model for PointerCache<'a> {
-    ghost use Rattle.std.specs.Prelude.{◌≡◌, ◌≤◌, ℕ, List, All, length, take};
+    ghost use Rattle.std.specs.Prelude.{◌≡◌, ◌≤◌, ℕ, List, All, length};
     ghost use Rattle.std.specs.Coded.{coded_ℕ, coded_list};
     ghost use Rattle.std.specs.FinMap as map;
     ghost use Rattle.std.specs.Ordering.{nat_cmp};
-    ghost use Rattle.base.specs.reading.Pointers.{IsInside, IsTargetThere, cache_of};
+    ghost use Rattle.base.specs.reading.Pointers.{IsInside, IsTargetThere, cache_of, first_of};
     ghost use Rattle.base.specs.declared.wire.pointer_cache.TheConstants.{ROOM};
 
     ghost Value = { map.FinMap nat_cmp (List ℕ) };
@@ -69,11 +75,11 @@ impl<'a> Model for PointerCache<'a> {
     ghost coded = { map.code coded_ℕ (coded_list coded_ℕ) };
 
     ghost view = { λ c.
-        cache_of c.copies.bytes c.copies.places.items (take c.count c.first) };
+        cache_of c.copies.bytes c.copies.places.items (first_of c.first) };
 
-    ghost invariant = { λ c. ((c.count ≤ ROOM) × (length c.first ≡ ROOM))
+    ghost invariant = { λ c. ((c.first.count ≤ ROOM) × (length c.first.all ≡ ROOM))
         × (All (IsInside c.copies.bytes) c.copies.places.items
-        × All (IsTargetThere c.copies.bytes) (take c.count c.first)) };
+        × All (IsTargetThere c.copies.bytes) (first_of c.first)) };
 }
 
 /// The labels at a place among copied ones.
@@ -99,18 +105,23 @@ fn place_at(places: &[usize], offset: usize) -> usize
 
 /// Where the labels at an offset are: it may have a place, or be one of the first targets.
 #[inline(always)]
-fn find_target<'a>(places: &[usize], first: &[Target<'a>], offset: u16) -> Option<TargetLabels<'a>>
+fn find_target<'a>(
+    places: &[usize],
+    first: &FirstTargets<'a>,
+    offset: u16,
+) -> Option<TargetLabels<'a>>
+    requires { first.now.count ≤ ROOM }
     // Whatever was copied, they are those that are kept for the offset.
     ensures found { (copied : List ℕ) → option_map (target_labels copied) result
-        ≡ map.get (cache_of copied places.now first.now) offset }
+        ≡ map.get (cache_of copied places.now (first_of first.now)) offset }
     ensures there { (copied : List ℕ) → All (IsInside copied) places.now
-        → All (IsTargetThere copied) first.now → IfSome result (AreThere copied) }
+        → All (IsTargetThere copied) (first_of first.now) → IfSome result (AreThere copied) }
 {
     let place = place_at(places, usize::from(offset));
     if place != 0 {
         return Some(TargetLabels::Copied(place));
     }
-    for target in first {
+    for target in &first.all[..first.count] {
         if target.offset == offset {
             return Some(target.labels);
         }
@@ -139,61 +150,49 @@ fn reach(places: &mut Vec<usize>, offset: usize, most: usize) -> Result<(), Allo
     Ok(())
 }
 
-/// Copies labels of the message and those of a target after them, and answers the place of the copy.
-fn append_both(
-    own: &[u8],
-    rest: TargetLabels<'_>,
-    bytes: &mut CopiedLabels,
-) -> Result<usize, AllocError>
-    requires there { AreThere bytes.old rest }
-    requires short { length (own.now ++ target_labels bytes.old rest) ≤ MAX_LABELS }
+/// Copies labels of the message and those at a place after them, and answers the place of the copy.
+fn append_copied(own: &[u8], place: usize, bytes: &mut CopiedLabels) -> Result<usize, AllocError>
+    requires some { place ≢ 0 }
+    requires there { IsInside bytes.old place }
+    requires short { length (own.now ++ labels_from bytes.old place) ≤ MAX_LABELS }
     ensures place { IfOk result (λ place. place ≡ length bytes.old + 1) }
     ensures ok { OnOk result (bytes.new
-        ≡ with_copied bytes.old (own.now ++ target_labels bytes.old rest.entry)) }
+        ≡ with_copied bytes.old (own.now ++ labels_from bytes.old place)) }
     ensures err { OnErr result (bytes.new ≡ bytes.old) }
 {
-    match rest {
-        TargetLabels::Lent(labels) => bytes.append(own, labels),
-        TargetLabels::Copied(place) => {
-            let mut room = [0; MAX_LABELS];
-            let labels = copied_at(bytes.as_slice(), place);
-            let len = labels.len();
-            room[..len].copy_from_slice(labels);
-            bytes.append(own, &room[..len])
-        }
-    }
+    let mut room = [0; MAX_LABELS];
+    let labels = copied_at(bytes.as_slice(), place);
+    let len = labels.len();
+    room[..len].copy_from_slice(labels);
+    bytes.append(own, &room[..len])
 }
 
-/// Where labels of the message are with those that are kept for the offset `after`: where the latter are if they are
-/// all, and else in a copy of both.
+/// Where labels of the message are with the rest of them, if there is any: where the rest is if that is all, and else in
+/// a copy of both.
+#[inline(always)]
 fn joined<'a>(
     own: &'a [u8],
-    after: Option<u16>,
-    first: &[Target<'a>],
-    copies: &mut Copies,
+    rest: Option<TargetLabels<'a>>,
+    bytes: &mut CopiedLabels,
 ) -> Result<TargetLabels<'a>, AllocError>
-    requires short { length (own.now ++ kept_after
-        (cache_of copies.old.bytes copies.old.places.items first.now) after) ≤ MAX_LABELS }
-    requires inside { All (IsInside copies.old.bytes) copies.old.places.items }
-    requires there { All (IsTargetThere copies.old.bytes) first.now }
-    ensures ok { IfOk result (λ labels. target_labels copies.new.bytes labels
-        ≡ own.now ++ kept_after
-        (cache_of copies.old.bytes copies.old.places.items first.now) after) }
-    ensures there { IfOk result (AreThere copies.new.bytes) }
-    ensures longer { IsLonger copies.old.bytes copies.new.bytes }
-    ensures same { copies.new.places.items ≡ copies.old.places.items }
-    ensures err { OnErr result (copies.new.bytes ≡ copies.old.bytes) }
+    requires there { IfSome rest (AreThere bytes.old) }
+    requires short { length (own.now ++ rest_labels bytes.old rest) ≤ MAX_LABELS }
+    ensures ok { IfOk result (λ labels. target_labels bytes.new labels
+        ≡ own.now ++ rest_labels bytes.old rest.entry) }
+    ensures there { IfOk result (AreThere bytes.new) }
+    ensures longer { IsLonger bytes.old bytes.new }
+    ensures err { OnErr result (bytes.new ≡ bytes.old) }
 {
-    let Some(after) = after else {
-        return Ok(TargetLabels::Lent(own));
-    };
-    let Some(rest) = find_target(&copies.places, first, after) else {
+    let Some(rest) = rest else {
         return Ok(TargetLabels::Lent(own));
     };
     if own.is_empty() {
         return Ok(rest);
     }
-    let place = append_both(own, rest, &mut copies.bytes)?;
+    let place = match rest {
+        TargetLabels::Lent(labels) => bytes.append(own, labels)?,
+        TargetLabels::Copied(place) => append_copied(own, place, bytes)?,
+    };
     Ok(TargetLabels::Copied(place))
 }
 
@@ -221,8 +220,10 @@ impl<'a> PointerCache<'a> {
             labels: TargetLabels::Copied(0),
         };
         PointerCache {
-            count: 0,
-            first: [unused; ROOM],
+            first: FirstTargets {
+                count: 0,
+                all: [unused; ROOM],
+            },
             copies: Copies {
                 bytes: CopiedLabels::new(alloc),
                 places: Vec::new(alloc),
@@ -234,7 +235,7 @@ impl<'a> PointerCache<'a> {
     pub(crate) fn find(&self, offset: u16) -> Option<&[u8]>
         ensures { labels_now result ≡ map.get self.now offset }
     {
-        match find_target(&self.copies.places, &self.first[..self.count], offset)? {
+        match find_target(&self.copies.places, &self.first, offset)? {
             TargetLabels::Lent(labels) => Some(labels),
             TargetLabels::Copied(place) => Some(copied_at(self.copies.bytes.as_slice(), place)),
         }
@@ -261,20 +262,22 @@ impl<'a> PointerCache<'a> {
             ≡ map.insert self.old offset (own.now ++ kept_after self.old after)) }
         ensures err { OnErr result (self.new ≡ self.old) }
     {
-        let first = self.first;
-        if self.count < ROOM {
-            let labels = joined(own, after, &first[..self.count], &mut self.copies)?;
-            self.first[self.count] = Target { offset, labels };
-            self.count += 1;
+        let rest = match after {
+            Some(after) => find_target(&self.copies.places, &self.first, after),
+            None => None,
+        };
+        let labels = joined(own, rest, &mut self.copies.bytes)?;
+        if self.first.count < ROOM {
+            self.first.all[self.first.count] = Target { offset, labels };
+            self.first.count += 1;
             return Ok(());
         }
+        let place = place_of(labels, &mut self.copies.bytes)?;
         reach(
             &mut self.copies.places,
             usize::from(offset),
             usize::from(most),
         )?;
-        let labels = joined(own, after, &first[..self.count], &mut self.copies)?;
-        let place = place_of(labels, &mut self.copies.bytes)?;
         self.copies.places[usize::from(offset)] = place;
         Ok(())
     }

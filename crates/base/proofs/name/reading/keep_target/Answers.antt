@@ -5,9 +5,9 @@ use Rattle.std.specs.Prelude.{OnErr}
 use Rattle.base.specs.reading.Tracks.{IsBounded}
 use Rattle.base.proofs.reading.GatherLemmas.{fails_is, gathers_none}
 use Rattle.base.proofs.reading.PieceLemmas.{piece_refused}
-use Rattle.base.proofs.reading.TargetLemmas.{Keeping, can_keep_next, ends_found, ends_none, first_bounded}
+use Rattle.base.proofs.reading.TargetLemmas.{ends_found, ends_none, first_bounded, keeping_first}
 use Rattle.base.proofs.reading.TargetLemmas.{keeping_bounded}
-use Rattle.base.proofs.reading.TargetLemmas.{keeping_last, keeping_next, kept_all, next_bounded, next_refused}
+use Rattle.base.proofs.reading.TargetLemmas.{keeping_next, kept_all, next_bounded, next_refused}
 use Rattle.base.proofs.reading.TargetLemmas.{walked_bounded, walked_first, walked_next, walked_nowhere}
 use Rattle.base.proofs.name.reading.keep_target.Goals as goal
 use Rattle.base.proofs.name.reading.keep_target.Goals.{in-Some+in_ok-kept_labels+then-is_some, in_default}
@@ -71,51 +71,36 @@ pieces-preserved c =
     c.follow-in-Some.ensures.counted c.follow-in-Some.ensures.lent c.in_ok-piece-2.ensures.piece
     c.in_ok-piece-2.ensures.near c.in_ok-push.ensures.items
 
-pub keep-requires : goal.keep-requires
-keep-requires c = elim c.match-piece.branch [
-  | in-Some+in_ok-kept_labels+then-is_some w ↦
-      let k = w.in_ok-kept_labels.ensures in
-      (ends_found c.pieces.invariant w.in_ok-kept_labels.field-0 w.in-Some.is
-      (omega (arith, k.below, w.from.ensures)) k.is
-      (sym w.is_some.ensures ∙ w.if-is_some.true) k.spelled k.short k.closed).can
-  | in_default w ↦ (ends_none c.pieces.invariant w.in_default.is).can
-]
-
-pub returns-in_err-keep-clause-bounded : goal.returns-in_err-keep-clause-bounded
-returns-in_err-keep-clause-bounded c = on_err c.from_residual-in_err-keep.result
-    (subst (IsBounded c.args.decoder.now) (sym c.in_err-keep.ensures.err) (walked_bounded c.pieces.invariant))
-
 pub kept-init : goal.kept-init
 kept-init c = elim c.match-piece.branch [
   | in-Some+in_ok-kept_labels+then-is_some w ↦
       let k = w.in_ok-kept_labels.ensures in
-      keeping_last c.pieces.invariant (ends_found c.pieces.invariant w.in_ok-kept_labels.field-0 w.in-Some.is
+      keeping_first c.pieces.invariant (ends_found c.pieces.invariant w.in_ok-kept_labels.field-0 w.in-Some.is
       (omega (arith, k.below, w.from.ensures)) k.is
-      (sym w.is_some.ensures ∙ w.if-is_some.true) k.spelled k.short k.closed) c.in_ok-keep.ensures.ok
-  | in_default w ↦ keeping_last c.pieces.invariant
-      (ends_none c.pieces.invariant w.in_default.is) c.in_ok-keep.ensures.ok
+      (sym w.is_some.ensures ∙ w.if-is_some.true) k.spelled k.short k.closed)
+  | in_default w ↦ keeping_first c.pieces.invariant (ends_none c.pieces.invariant w.in_default.is)
 ]
 
-pub keep-requires-in-Some-pop : goal.keep-requires-in-Some-pop
-keep-requires-in-Some-pop c =
-    can_keep_next c.pop.new.self.items c.in-Some-pop.at c.in-Some-pop.piece c.kept.invariant
-    c.in-Some-pop.ensures.items
+pub keep-requires : goal.keep-requires
+keep-requires c = c.kept.invariant.can
+
+pub returns-in_err-keep-clause-bounded : goal.returns-in_err-keep-clause-bounded
+returns-in_err-keep-clause-bounded c = on_err c.from_residual-in_err-keep.result
+    (subst (IsBounded c.args.decoder.now) (sym c.in_err-keep.ensures.err) (keeping_bounded c.kept.invariant))
+
+pub kept-preserved : goal.kept-preserved
+kept-preserved c = keeping_next c.kept.invariant c.in_ok-keep.ensures.ok c.pop.new.self.items c.in-Some-pop.above
+    c.in-Some-pop.longer c.in-Some-pop.ensures.items
+
+pub keep-requires-2 : goal.keep-requires-2
+keep-requires-2 c = c.kept.invariant.can
 
 pub returns-in_err-keep-2-clause-bounded : goal.returns-in_err-keep-2-clause-bounded
 returns-in_err-keep-2-clause-bounded c = on_err c.from_residual-in_err-keep-2.result
     (subst (IsBounded c.args.decoder.now) (sym c.in_err-keep-2.ensures.err) (keeping_bounded c.kept.invariant))
 
-pub kept-preserved : goal.kept-preserved
-kept-preserved c =
-    keeping_next c.pop.new.self.items c.in-Some-pop.at c.in-Some-pop.piece c.kept.invariant
-    c.in-Some-pop.ensures.items c.in_ok-keep-2.ensures.ok
-
 pub returns-clause-read : goal.returns-clause-read
-returns-clause-read c =
-    let none : c.kept.waiting.items ≡ [] = grind (arith, common_steps) in
-    (kept_all (subst (Keeping c.args.decoder.now c.kept.decoder c.args.target c.args.used) none c.kept.invariant)).0
+returns-clause-read c = (kept_all c.kept.invariant c.in_ok-keep-2.ensures.ok (grind (arith, common_steps))).0
 
 pub returns-clause-kept : goal.returns-clause-kept
-returns-clause-kept c =
-    let none : c.kept.waiting.items ≡ [] = grind (arith, common_steps) in
-    (kept_all (subst (Keeping c.args.decoder.now c.kept.decoder c.args.target c.args.used) none c.kept.invariant)).1
+returns-clause-kept c = (kept_all c.kept.invariant c.in_ok-keep-2.ensures.ok (grind (arith, common_steps))).1

@@ -9,7 +9,7 @@ abbrev pub decreases-pieces : goal.decreases-pieces
 decreases-pieces l = l.at
 
 abbrev pub invariant-kept : goal.invariant-kept
-invariant-kept l = Keeping l.fn.decoder l.decoder l.target l.used l.waiting.items
+invariant-kept l = Keeping l.fn.decoder l.decoder l.target l.used l.waiting.items l.at l.piece
 
 abbrev pub decreases-kept : goal.decreases-kept
 decreases-kept l = length l.waiting.items
