@@ -186,6 +186,7 @@ impl BinDecodable for Name {
             decoder.move_to(start + piece.len + 1);
             return Ok(Name { labels });
         };
+        // Labels that aren't kept yet are at the second look.
         'look: loop {
             if let Some(kept) = kept_labels(decoder, target, start, piece.len)? {
                 let labels = Labels::from_front_and(alloc, own, piece.len, kept, true)?;

@@ -38,7 +38,7 @@ struct Target<'a> {
     labels: TargetLabels<'a>,
 }
 
-/// The first targets. What stands after them in the array has no meaning.
+/// The first targets, as many as are counted. What stands after them in the array has no meaning.
 #[derive(Clone, Copy)]
 struct FirstTargets<'a> {
     count: usize,
