@@ -196,6 +196,18 @@ fn long_names_go_over_messages(rt: HostRuntime) -> Result<(), Fail> {
     Ok(())
 }
 
+/// 65,387 bytes of records, which leave no room for the 157 of the last SOA.
+#[test]
+fn the_last_soa_goes_alone(rt: HostRuntime) -> Result<(), Fail> {
+    let text = wide_text(rt.alloc(), LONG_ORIGIN, 540)?;
+    let (origin, sets) = parsed(rt.alloc(), &text)?;
+    let all = transferred(rt.alloc(), &origin, &sets, LONG_QUERY, 3)?;
+    assert_eq!(rt; all.messages, 2);
+    assert!(rt; all.is_right);
+    assert!(rt; is_whole(&all, &sets));
+    Ok(())
+}
+
 /// The code of the one message that a query is answered with, if it is answered by one without records.
 fn code_of(
     alloc: Global,

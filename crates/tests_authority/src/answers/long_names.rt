@@ -80,6 +80,15 @@ pub const LONG_NAMES: &[Row] = &[
         "",
     ),
     (
+        "wild",
+        RecordType::ANY,
+        ResponseCode::NoError,
+        true,
+        "",
+        LONG_SOA,
+        "",
+    ),
+    (
         "x.nothing",
         RecordType::A,
         ResponseCode::NXDomain,
