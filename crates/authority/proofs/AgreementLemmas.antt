@@ -1,10 +1,11 @@
 -- Zones that agree on what decides on a name have the same for it.
-use Rattle.authority.proofs.WayLemmas.{starts}
+use Rattle.authority.proofs.CaseLemmas.{pick_alike}
+use Rattle.authority.proofs.WayLemmas.{one_more, starts}
 use Rattle.authority.specs.Agreement.{Agree, with_sets}
 use Rattle.authority.specs.Lookup.{Outside, alias_at, alias_else, alias_in, asked, at_source, cut_else, cut_over}
-use Rattle.authority.specs.Lookup.{encloser, encloses, end_that_exists, ends_below, exists, has_servers, if_below}
-use Rattle.authority.specs.Lookup.{if_exists, is_ds, lookup, name_with, records, records_of, source, way}
-use Rattle.authority.specs.Lookup.{wildcard_below}
+use Rattle.authority.specs.Lookup.{encloser, encloses, end_that_exists, ends_below, exists, has_servers}
+use Rattle.authority.specs.Lookup.{if_exists, is_ds, lookup, name_with, records, records_of, records_of_sets, source}
+use Rattle.authority.specs.Lookup.{way, wildcard_below}
 use Rattle.base.proofs.names.KeyLemmas.{key_cmp-exact, key_cmp-total}
 use Rattle.base.specs.names.Labels.{NameValue}
 use Rattle.base.specs.names.NameOrder.{exact, lowered, same_name}
@@ -17,16 +18,20 @@ use Rattle.base.specs.declared.rr_key.RrKey.{RrKey}
 use Rattle.op_use.specs.Server.{is_any, is_cname}
 use Rattle.op_use.specs.Zone.{Datum, Zone, is_owned}
 use Rattle.std.proofs.Common.{ap, append_assoc, drop, refl, sym, take, ◌++◌, ◌∙◌}
-use Rattle.std.proofs.lemmas.Bool.{false≢true, or_parts}
-use Rattle.std.proofs.lemmas.List.Folds.{find-append}
+use Rattle.std.proofs.lemmas.Bool.{or_parts}
+use Rattle.std.proofs.lemmas.Cmp.{eq_by_cmp_equiv}
+use Rattle.std.proofs.lemmas.List.Folds.{Any-from_list_any, list_any-from_Any}
+use Rattle.std.proofs.lemmas.Map.Views.{Contains-from_any, list_any-from_Contains}
+use Rattle.std.specs.Cmp.{Equal-is}
 use Rattle.std.proofs.lemmas.List.{take-append-drop}
 use Rattle.std.specs.FinMap as fin
 use Rattle.std.specs.FinMap.Entries.{find-where_key, is_sorted-where_key, same_entries, where_key}
 use Rattle.std.specs.FinMap.{FinMap}
-use Rattle.std.specs.List.{filter, find, flat_map}
+use Rattle.std.specs.List.{filter, find, list_any}
 use Rattle.std.specs.Option.{option_or}
-use Rattle.std.specs.Prelude.{Bool, List, None, Option, Some, [], cond, false, not, true, unwrap_or, ℕ, ◌&&◌, ◌||◌, ◌∷◌}
-use Rattle.std.specs.Prelude.{◌≡◌}
+use Rattle.std.specs.Ordering.{eq_by_cmp}
+use Rattle.std.specs.Prelude.{Bool, List, None, Option, Some, [], cond, false, is_some, not, true, unwrap_or, ℕ, ◌&&◌}
+use Rattle.std.specs.Prelude.{◌||◌, ◌∷◌, ◌≡◌}
 use Rattle.std.specs.declared.cmp.Ordering.TheVariants.{Equal}
 
 -- maps that agree on the keys that pass a test have the same entries there
@@ -48,6 +53,24 @@ module _ (p : RrKey → Bool) (m n : FinMap key_cmp (List Datum))
       (is_sorted-where_key key_cmp p (fin.entries n) (fin.entries_sorted n))
       (λ q. find-where_key key_cmp p q (alike q) (fin.entries m) ∙ found_alike q (p q) refl
       ∙ sym (find-where_key key_cmp p q (alike q) (fin.entries n)))
+
+-- a key of a map passes a test exactly where the test finds it among all keys
+module _ (p : RrKey → Bool) (m : FinMap key_cmp (List Datum)) where
+  pub some_passes : list_any p (fin.keys m) ≡ true
+      → (k : RrKey) × (p k ≡ true) × (is_some (fin.get m k) ≡ true)
+  some_passes h =
+      let a = Any-from_list_any p (fin.keys m) h in (
+        a.1,
+        a.4,
+        fin.contains_key-keys m a.1
+            ∙ list_any-from_Contains (eq_by_cmp_equiv key_cmp-total) a.1 (fin.keys m) (a.0, a.2, a.3),
+      )
+
+  pub any_from : (k : RrKey) → p k ≡ true → is_some (fin.get m k) ≡ true → list_any p (fin.keys m) ≡ true
+  any_from k own there =
+      let c = Contains-from_any {eq = eq_by_cmp key_cmp} (λ a b t. key_cmp-exact a b ((Equal-is (key_cmp a b)).0 t)) k
+      (fin.keys m) (sym (fin.contains_key-keys m k) ∙ there) in
+      list_any-from_Any p (fin.keys m) (c.0, k, c.1, c.2, own)
 
 module _ (z : Zone) (sets : FinMap key_cmp (List Datum)) where
   abbrev y : Zone
@@ -73,9 +96,7 @@ module _ (z : Zone) (sets : FinMap key_cmp (List Datum)) where
       let rest = ways_agree absolute labels (λ front end e. h (x ∷ front) end (ap (λ
       (xs : List (List ℕ)). x ∷ xs) e)) in
       let own = own_agrees n (is_below z.origin n) refl (h [] (x ∷ labels) refl) in
-      find-append (has_servers z) (ends_below z absolute labels) (if_below z n)
-      ∙ (λ i. option_or (rest i) (own i))
-      ∙ sym (find-append (has_servers y) (ends_below y absolute labels) (if_below y n))
+      one_more z absolute x labels ∙ (λ i. option_or (rest i) (own i)) ∙ sym (one_more y absolute x labels)
 
   side_agrees : (n : NameValue) (b : Bool) → SameServers n.absolute n.labels
       → find (has_servers z) (way z (cond b (parent n) n)) ≡ find (has_servers y) (way y (cond b (parent n) n))
@@ -97,20 +118,14 @@ module _ (z : Zone) (sets : FinMap key_cmp (List Datum)) where
   below_by n w none = ap (λ b. b && not (same_name n z.origin)) w
       ∙ ap not ((or_parts (exists z n) (same_name n z.origin) none).1)
 
-  encloser_step : (n p q : NameValue) (b c : Bool) → b ≡ c → (b ≡ false → p ≡ q) → cond b n p ≡ cond c n q
-  encloser_step n p q true true same h = refl
-  encloser_step n p q false false same h = h refl
-  encloser_step n p q true false same h = absurd (false≢true (sym same))
-  encloser_step n p q false true same h = absurd (false≢true same)
-
   pub encloser_agrees : (absolute : Bool) (labels : List (List ℕ))
       → is_within z.origin (name_with absolute labels) ≡ true → SameEnds absolute labels
       → end_that_exists z absolute labels ≡ end_that_exists y absolute labels
   encloser_agrees absolute [] w h = refl
   encloser_agrees absolute (x ∷ labels) w h =
       let n : NameValue = name_with absolute (x ∷ labels) in
-      encloser_step n (end_that_exists z absolute labels) (end_that_exists y absolute labels) (encloses z n)
-      (encloses y n) (ap (λ b. b || same_name n z.origin) (h [] (x ∷ labels) refl w))
+      pick_alike (λ (m : NameValue). m) (encloses z n) (encloses y n) n n (end_that_exists z absolute labels)
+      (end_that_exists y absolute labels) (ap (λ b. b || same_name n z.origin) (h [] (x ∷ labels) refl w)) refl
       (λ none. encloser_agrees absolute labels
       ((starts z.origin absolute (x ∷ labels) (below_by n w none)).within)
       (λ front end e. h (x ∷ front) end (ap (λ (xs : List (List ℕ)). x ∷ xs) e)))
@@ -149,7 +164,7 @@ module _ (z : Zone) (sets : FinMap key_cmp (List Datum)) where
     asked_agrees =
         let all = kept_agree (is_owned s) z.sets sets same in
         let one = records_agree n (key_of s t) (same (key_of s t) (owns_itself s t)) in
-        λ i. cond (is_any t) (flat_map (λ (e : RrKey × List Datum). records_of z.class n e.1) (all i)) (one i)
+        λ i. cond (is_any t) (records_of_sets z.class n (all i)) (one i)
 
     data_agrees : at_source z t n (Some s) ≡ at_source y t n (Some s)
     data_agrees = λ i. alias_else (alias_agrees i) (asked_agrees i)

@@ -1,9 +1,8 @@
 -- What follows of what is answered.
-use Rattle.authority.specs.Answer.{AnswerValue, answer, answer_found, of_data, owns, with_authority}
+use Rattle.authority.specs.Answer.{AnswerValue, answer, answer_found, of_data, owns, with_authority, is_none}
 use Rattle.authority.specs.Chain.IsChain.{ends, leads}
 use Rattle.authority.proofs.StandingLemmas.{alias_owner}
 use Rattle.authority.specs.Chain.{AreLed, AreNew, EndsFor, IsChain, authorities_for, code_for}
-use Rattle.authority.specs.Answer.{is_none}
 use Rattle.authority.specs.Lookup.{Alias, Cut, Data, Finding, NoName, Outside, lookup}
 use Rattle.base.specs.names.Labels.{NameValue}
 use Rattle.base.specs.declared.record_type.RecordType.{RecordType}
@@ -11,15 +10,10 @@ use Rattle.base_data.specs.declared.rdata.RData.{RData}
 use Rattle.op.specs.declared.response_code.ResponseCode.TheVariants.{ServFail}
 use Rattle.op_use.specs.Zone.{Zone}
 use Rattle.rr.specs.declared.record.Record.{Record}
-use Rattle.std.proofs.Common.{ap, append_assoc, arith, inl, inr, length, refl, subst, sym, ◌+◌, ◌++◌, ◌≤◌, ◌∙◌}
-use Rattle.std.proofs.lemmas.Bool.{false≢true}
+use Rattle.std.proofs.Common.{ap, append_assoc, arith, inl, inr, length, refl, sym, ◌+◌, ◌++◌, ◌≤◌, ◌∙◌}
+use Rattle.std.proofs.lemmas.Bool.{cond_both, false≢true}
 use Rattle.std.proofs.lemmas.List.{append-nil}
-use Rattle.std.specs.Prelude.{Bool, List, [], cond, false, not, suc, true, zero, ℕ, ◌∷◌, ◌≡◌, ◌⊎◌}
-
--- one of two answers
-either : (P : AnswerValue → Type 0) (b : Bool) (x y : AnswerValue) → P x → P y → P (cond b x y)
-either P true x y p q = p
-either P false x y p q = q
+use Rattle.std.specs.Prelude.{List, [], false, not, suc, true, zero, ℕ, ◌∷◌, ◌≡◌, ◌⊎◌}
 
 some_more : (done : List (Record RData)) (r : Record RData) → is_none (done ++ r ∷ []) ≡ false
 some_more [] r = refl
@@ -44,9 +38,9 @@ module _ (z : Zone) (t : RecordType) where
   authority_after room done n (Cut m) h = ap not h
   authority_after zero done n (Alias r target) h = refl
   authority_after (suc room) done n (Alias r target) h =
-      either HasAuthority (owns target (done ++ r ∷ [])) (with_authority ServFail (done ++ r ∷ []) [] [])
-      (answer_found z t room (done ++ r ∷ []) target (lookup z t target)) refl
-      (authority_after room (done ++ r ∷ []) target (lookup z t target) (some_more done r))
+      cond_both (owns target (done ++ r ∷ [])) (with_authority ServFail (done ++ r ∷ []) [] [])
+      (answer_found z t room (done ++ r ∷ []) target (lookup z t target)) HasAuthority (λ e. refl)
+      (λ e. authority_after room (done ++ r ∷ []) target (lookup z t target) (some_more done r))
 
   clear_by : (room : ℕ) (n : NameValue) (f : Finding) → (answer_found z t room [] n f).authoritative ≡ false
       → (m : NameValue) × (f ≡ Cut m)
@@ -57,9 +51,9 @@ module _ (z : Zone) (t : RecordType) where
   clear_by room n (Cut m) h = (m, refl)
   clear_by zero n (Alias r target) h = absurd (false≢true (sym h))
   clear_by (suc room) n (Alias r target) h = absurd (false≢true (sym h
-      ∙ either HasAuthority (owns target (r ∷ [])) (with_authority ServFail (r ∷ []) [] [])
-      (answer_found z t room (r ∷ []) target (lookup z t target)) refl
-      (authority_after room (r ∷ []) target (lookup z t target) refl)))
+      ∙ cond_both (owns target (r ∷ [])) (with_authority ServFail (r ∷ []) [] [])
+      (answer_found z t room (r ∷ []) target (lookup z t target)) HasAuthority (λ e. refl)
+      (λ e. authority_after room (r ∷ []) target (lookup z t target) refl)))
 
   clear_at : (room : ℕ) (n : NameValue) (m : NameValue) → (answer_found z t room [] n (Cut m)).authoritative ≡ false
   unfolding answer_found
@@ -93,43 +87,35 @@ module _ (z : Zone) (t : RecordType) where
       → a.authorities ≡ authorities_for z n f → EndsFor z t n a
   for_found n f a e c h = inl (c ∙ ap code_for (sym e), h ∙ ap (authorities_for z n) (sym e))
 
-  nothing_more : (n : NameValue) (most : ℕ) (done : List (Record RData)) (a : AnswerValue) → a.answers ≡ done
-      → EndsFor z t n a → IsLed n most done a
-  nothing_more n most done a e h = (
-    [],
-    e ∙ sym (append-nil done),
+  with_records : (n : NameValue) (most : ℕ) (done rs : List (Record RData)) (a : AnswerValue) → a.answers ≡ done ++ rs
+      → (rs ≡ []) ⊎ (lookup z t n ≡ Data rs) → EndsFor z t n a → IsLed n most done a
+  with_records n most done rs a e found h = (
+    rs,
+    e,
     record {
       chain = [];
       last = n;
-      records = [];
+      records = rs;
       answers_are = refl;
       is_chain = ends n;
       short = omega arith;
       distinct = tt;
-      found = inl refl;
+      found = found;
     },
     h,
   )
+
+  nothing_more : (n : NameValue) (most : ℕ) (done : List (Record RData)) (a : AnswerValue) → a.answers ≡ done
+      → EndsFor z t n a → IsLed n most done a
+  nothing_more n most done a e h = with_records n most done [] a (e ∙ sym (append-nil done)) (inl refl) h
 
   of_records : (n : NameValue) (most : ℕ) (done rs : List (Record RData)) → lookup z t n ≡ Data rs
       → IsLed n most done (of_data z t done n rs)
   of_records n most done [] e = nothing_more n most done (of_data z t done n []) refl
       (for_found n (Data []) (of_data z t done n []) e refl refl)
-  of_records n most done (r ∷ rs) e = (
-    r ∷ rs,
-    refl,
-    record {
-      chain = [];
-      last = n;
-      records = r ∷ rs;
-      answers_are = refl;
-      is_chain = ends n;
-      short = omega arith;
-      distinct = tt;
-      found = inr e;
-    },
-    for_found n (Data (r ∷ rs)) (of_data z t done n (r ∷ rs)) e refl refl,
-  )
+  of_records n most done (r ∷ rs) e =
+      let a : AnswerValue = of_data z t done n (r ∷ rs) in
+      with_records n most done (r ∷ rs) a refl (inr e) (for_found n (Data (r ∷ rs)) a e refl refl)
 
   one_alias : (n target : NameValue) (most : ℕ) (done : List (Record RData)) (r : Record RData)
       → lookup z t n ≡ Alias r target → 1 ≤ most → owns n done ≡ false
@@ -169,12 +155,6 @@ module _ (z : Zone) (t : RecordType) where
     led.3,
   )
 
-  -- one of two answers, the second where the test fails
-  or_else : (P : AnswerValue → Type 0) (b c : Bool) (x y : AnswerValue) → b ≡ c → P x → (b ≡ false → P y)
-      → P (cond b x y)
-  or_else P b true x y e p q = subst (λ d. P (cond d x y)) (sym e) p
-  or_else P b false x y e p q = subst (λ d. P (cond d x y)) (sym e) (q e)
-
   led_by : (room : ℕ) (done : List (Record RData)) (n : NameValue) (f : Finding) → lookup z t n ≡ f
       → owns n done ≡ false → IsLed n (suc room) done (answer_found z t room done n f)
   unfolding answer_found
@@ -192,8 +172,8 @@ module _ (z : Zone) (t : RecordType) where
   led_by (suc room) done n (Alias r target) e new =
       let failed : AnswerValue = with_authority ServFail (done ++ r ∷ []) [] [] in
       let more : AnswerValue = answer_found z t room (done ++ r ∷ []) target (lookup z t target) in
-      or_else (IsLed n (suc (suc room)) done) (owns target (done ++ r ∷ [])) (owns target (done ++ r ∷ [])) failed
-      more refl (one_alias n target (suc (suc room)) done r e (omega arith) new)
+      cond_both (owns target (done ++ r ∷ [])) failed more (IsLed n (suc (suc room)) done)
+      (λ again. one_alias n target (suc (suc room)) done r e (omega arith) new)
       (λ fresh. alias_before n target (suc room) done r more e new
       (led_by room (done ++ r ∷ []) target (lookup z t target) refl fresh))
 

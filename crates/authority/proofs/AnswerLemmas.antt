@@ -4,7 +4,7 @@ use Rattle.authority.proofs.SetLemmas.{records_there}
 use Rattle.authority.specs.Answer.{answer, answer_found, end_like, extras, negative, of_data, owns, referring}
 use Rattle.authority.specs.Answer.{with_authority}
 use Rattle.authority.specs.Found.{IsFound, answered}
-use Rattle.authority.specs.Lookup.{Alias, Cut, Data, NoName, Outside, alias_in, alias_or, least_ttl, lookup}
+use Rattle.authority.specs.Lookup.{Alias, Data, NoName, Outside, alias_in, alias_or, least_ttl, lookup}
 use Rattle.authority.specs.Lookup.{record_of, shown, target_of}
 use Rattle.authority.specs.ZoneRef.{AreUnderKeys}
 use Rattle.authority.specs.declared.found.Found.TheVariants as codes

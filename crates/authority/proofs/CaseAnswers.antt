@@ -1,5 +1,6 @@
 -- The letter case of a name changes nothing of what is answered but owners.
-use Rattle.authority.proofs.CaseLemmas.{lookups_alike, lowered_records, within_alike}
+use Rattle.authority.proofs.AgreeingReplies.{refused_alike, unless_response}
+use Rattle.authority.proofs.CaseLemmas.{lookups_alike, lowered_records, pick_alike, within_alike}
 use Rattle.authority.specs.Answer.{AnswerValue, addresses_of, answer, answer_found, as_negative, end_like, extras}
 use Rattle.authority.specs.Answer.{host_in, is_given, is_none, negative, of_data, owns, referring, with_addresses}
 use Rattle.authority.specs.Answer.{with_authority, with_host}
@@ -19,18 +20,17 @@ use Rattle.op.specs.MessageType.{is_response}
 use Rattle.op.specs.declared.query.Query.{Query}
 use Rattle.op.specs.declared.response_code.ResponseCode.TheVariants.{NXDomain, NoError, NotImp, Refused, ServFail}
 use Rattle.op.specs.declared.response_code.ResponseCode.{ResponseCode}
-use Rattle.op_use.specs.Server.{StepCode, and_then, is_any, is_meta, unless}
+use Rattle.op_use.specs.Server.{and_then, is_any, is_meta, unless}
 use Rattle.op_use.specs.Zone.{Zone, at, has_set}
 use Rattle.rr.specs.Record.{type_of_record}
 use Rattle.rr.specs.RecordOrder.{same_class}
 use Rattle.rr.specs.declared.record.Record.{Record}
 use Rattle.std.proofs.Common.{ap, drop, length, refl, sym, ◌++◌, ◌-◌, ◌∙◌}
-use Rattle.std.proofs.lemmas.Bool.{false≢true}
 use Rattle.std.proofs.lemmas.List.{drop-map, length-map, map-append}
 use Rattle.std.proofs.lemmas.Simd.{map-map}
 use Rattle.std.specs.Char.{to_ascii_lowercase}
 use Rattle.std.specs.List.{cons_option, filter_map, fold, list_any}
-use Rattle.std.specs.Prelude.{Bool, List, None, Some, [], cond, false, map, not, option_map, suc, true, zero, ℕ}
+use Rattle.std.specs.Prelude.{Bool, List, [], cond, false, map, not, option_map, suc, true, zero, ℕ}
 use Rattle.std.specs.Prelude.{◌&&◌, ◌||◌, ◌∷◌, ◌≡◌}
 
 -- what is asked of records by their owners, is asked of owners in lower case
@@ -74,13 +74,6 @@ lowered_end a n =
 authority_alike : (code : ResponseCode) (gs hs xs ys es fs : List (Record RData)) → Same gs hs → Same xs ys
     → Same es fs → answer_lowered (with_authority code gs xs es) ≡ answer_lowered (with_authority code hs ys fs)
 authority_alike code gs hs xs ys es fs p q r = λ i. with_authority code (p i) (q i) (r i)
-
-either_alike : (b c : Bool) (x y u v : AnswerValue) → b ≡ c → answer_lowered x ≡ answer_lowered y
-    → answer_lowered u ≡ answer_lowered v → answer_lowered (cond b x u) ≡ answer_lowered (cond c y v)
-either_alike true true x y u v e p q = p
-either_alike false false x y u v e p q = q
-either_alike true false x y u v e p q = absurd (false≢true (sym e))
-either_alike false true x y u v e p q = absurd (false≢true e)
 
 module _ (z : Zone) where
   given_alike : (gs hs xs : List (Record RData)) (n : NameValue) (t : RecordType) → Same gs hs
@@ -181,12 +174,13 @@ module _ (z : Zone) where
       let owned : owns m (gs ++ r ∷ []) ≡ owns n (hs ++ q ∷ []) = owns_is (gs ++ r ∷ []) m
       ∙ (λ i. list_any (λ (x : Record RData). same_lower (lowered (target i)) x.name) (more i))
       ∙ sym (owns_is (hs ++ q ∷ []) n) in
-      either_alike (owns m (gs ++ r ∷ [])) (owns n (hs ++ q ∷ [])) (with_authority ServFail (gs ++ r ∷ []) [] [])
+      pick_alike answer_lowered (owns m (gs ++ r ∷ [])) (owns n (hs ++ q ∷ []))
+      (with_authority ServFail (gs ++ r ∷ []) [] [])
       (with_authority ServFail (hs ++ q ∷ []) [] [])
       (answer_found z t room (gs ++ r ∷ []) m (lookup z t m))
       (answer_found z t room (hs ++ q ∷ []) n (lookup z t n)) owned
       (authority_alike ServFail (gs ++ r ∷ []) (hs ++ q ∷ []) [] [] [] [] more refl refl)
-      (found_alike t room (gs ++ r ∷ []) (hs ++ q ∷ []) m n (lookup z t m) (lookup z t n) more (ap lowered target)
+      (λ e. found_alike t room (gs ++ r ∷ []) (hs ++ q ∷ []) m n (lookup z t m) (lookup z t n) more (ap lowered target)
       (ap (λ (x : NameValue). finding_lowered (lookup z t x)) target))
   found_alike t room gs hs a b f g s h e = cc
 
@@ -197,11 +191,6 @@ module _ (z : Zone) where
 
   -- ---- messages
 
-  refused_alike : (o : StepCode) (x y : AnswerValue) → answer_lowered x ≡ answer_lowered y
-      → answer_lowered (refused_or o x) ≡ answer_lowered (refused_or o y)
-  refused_alike (Some code) x y h = refl
-  refused_alike None x y h = h
-
   refusals_alike : (q : Query) (n : NameValue) → lowered q.name ≡ lowered n
       → question_refusal z q ≡ question_refusal z (record q { name = n })
   refusals_alike q n h = ap (λ b. and_then (unless (same_class q.query_class z.class
@@ -210,22 +199,17 @@ module _ (z : Zone) where
       (and_then (unless b Refused) (unless (has_set z (key_of z.origin types.SOA)) ServFail))))
       (within_alike z q.name n h)
 
-  unless_response : (b : Bool) (x y : MessageValue) → message_lowered x ≡ message_lowered y
-      → option_map message_lowered (cond b None (Some x)) ≡ option_map message_lowered (cond b None (Some y))
-  unless_response true x y h = refl
-  unless_response false x y h = ap (λ (m : MessageValue). Some m) h
-
   pub replies_alike : (m : MessageValue) (q : Query) (n : NameValue) → lowered q.name ≡ lowered n
       → option_map message_lowered (reply z (record m { queries = q ∷ [] }))
       ≡ option_map message_lowered (reply z (record m { queries = record q { name = n } ∷ [] }))
   replies_alike m q n h =
       let one : MessageValue = record m { queries = q ∷ [] } in
       let other : MessageValue = record m { queries = record q { name = n } ∷ [] } in
-      let same = refused_alike (question_refusal z q) (answer z q.query_type 11 [] q.name)
+      let same = refused_alike answer_lowered (question_refusal z q) (answer z q.query_type 11 [] q.name)
       (answer z q.query_type 11 [] n) (answers_alike q.query_type 11 q.name n h)
       ∙ ap (λ o. answer_lowered (refused_or o (answer z q.query_type 11 [] n))) (refusals_alike q n h) in
-      unless_response (is_response m.metadata.message_type)
+      unless_response message_lowered (is_response m.metadata.message_type)
       (framed one (refused_or (header_refusal m) (answer_to z one.queries)))
       (framed other (refused_or (header_refusal m) (answer_to z other.queries)))
       (ap (λ (a : AnswerValue). record (framed m a) { queries = [] })
-      (refused_alike (header_refusal m) (answer_to z one.queries) (answer_to z other.queries) same))
+      (refused_alike answer_lowered (header_refusal m) (answer_to z one.queries) (answer_to z other.queries) same))

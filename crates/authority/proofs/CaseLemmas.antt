@@ -1,10 +1,11 @@
 -- The letter case of a name changes nothing of what a zone has for it.
+use Rattle.authority.proofs.WayLemmas.{one_more as way_by}
 use Rattle.authority.specs.LetterCase.{finding_lowered}
 use Rattle.authority.specs.Lookup.{Finding, NoName, Outside, alias_at, alias_else, alias_in, alias_or}
 use Rattle.authority.specs.Lookup.{asked, at_source, cut_else, cut_over, encloser, encloses, end_that_exists}
-use Rattle.authority.specs.Lookup.{ends_below}
-use Rattle.authority.specs.Lookup.{exists, has_servers, if_below, is_ds, least_ttl, lookup, name_with, owner_lowered}
-use Rattle.authority.specs.Lookup.{record_of, records, records_of, shown, side_asked, source, target_of, wildcard_below}
+use Rattle.authority.specs.Lookup.{ends_below, exists, has_servers, if_below, if_exists, is_ds, least_ttl, lookup}
+use Rattle.authority.specs.Lookup.{name_with, owner_lowered, record_of, records, records_of, records_of_sets, sets_of}
+use Rattle.authority.specs.Lookup.{shown, side_asked, source, target_of, wildcard_below}
 use Rattle.base.specs.names.Labels.{NameValue}
 use Rattle.base.specs.names.NameOrder.{folded, folded_labels, lowered, same_lower, same_name}
 use Rattle.base.specs.names.NameOrderLaws.{same_by-is}
@@ -16,22 +17,19 @@ use Rattle.base.specs.declared.record_type.RecordType.{RecordType}
 use Rattle.base.specs.declared.rr_key.RrKey.{RrKey}
 use Rattle.base_data.specs.declared.rdata.RData.{RData}
 use Rattle.op_use.specs.Server.{is_any, is_cname}
-use Rattle.op_use.specs.Zone.{Datum, Zone, at, is_owned}
+use Rattle.op_use.specs.Zone.{Datum, Zone, at}
 use Rattle.rr.specs.declared.record.Record.{Record}
 use Rattle.std.proofs.Common.{ap, drop, refl, sym, ◌++◌, ◌∙◌}
-use Rattle.std.proofs.lemmas.Bool.{false≢true}
-use Rattle.std.proofs.lemmas.List.Folds.{find-append}
 use Rattle.std.proofs.lemmas.List.{map-append}
 use Rattle.std.proofs.lemmas.Simd.{map-map}
 use Rattle.std.specs.Bool.{beq}
 use Rattle.std.specs.Char.{to_ascii_lowercase}
 use Rattle.std.specs.Cmp.Lexicographic.{pointwise}
 use Rattle.std.specs.FinMap as fin
-use Rattle.std.specs.List.{ends_with, filter, find, flat_map, list_any}
+use Rattle.std.specs.List.{ends_with, filter, find, list_any}
 use Rattle.std.specs.Option.{option_or}
 use Rattle.std.specs.Prelude.{Bool, List, None, Option, Some, [], cond, false, is_some, map, nat_eq, not, option_map}
-use Rattle.std.specs.Prelude.{true}
-use Rattle.std.specs.Prelude.{ℕ, ◌&&◌, ◌||◌, ◌∷◌, ◌≡◌}
+use Rattle.std.specs.Prelude.{true, ℕ, ◌&&◌, ◌||◌, ◌∷◌, ◌≡◌}
 
 -- the records of a name, with their owners in lower case
 pub lowered_records : (class : DNSClass) (n : NameValue) (ds : List Datum)
@@ -57,18 +55,11 @@ wildcards_alike : (a b : NameValue) → lowered a ≡ lowered b → lowered (wil
 wildcards_alike a b h =
     ap (λ (x : NameValue). record x { labels = map to_ascii_lowercase asterisk ∷ x.labels }) h
 
--- one of two names, by tests that agree
-pick_alike : (b c : Bool) (m n p q : NameValue) → b ≡ c → lowered m ≡ lowered n → lowered p ≡ lowered q
-    → lowered (cond b m p) ≡ lowered (cond c n q)
-pick_alike true true m n p q e h k = h
-pick_alike false false m n p q e h k = k
-pick_alike true false m n p q e h k = absurd (false≢true (sym e))
-pick_alike false true m n p q e h k = absurd (false≢true e)
-
-pick_option : (b : Bool) (n : NameValue) (o : Option NameValue)
-    → option_map lowered (cond b (Some n) o) ≡ cond b (Some (lowered n)) (option_map lowered o)
-pick_option true n o = refl
-pick_option false n o = refl
+-- what is said of one of two, by tests that agree
+pub pick_alike : {X Y : Type 0} (f : X → Y) (b c : Bool) (m n p q : X) → b ≡ c → f m ≡ f n → (b ≡ false → f p ≡ f q)
+    → f (cond b m p) ≡ f (cond c n q)
+pick_alike f b true m n p q e h k = ap (λ d. f (cond d m p)) e ∙ h
+pick_alike f b false m n p q e h k = ap (λ d. f (cond d m p)) e ∙ k e
 
 or_option : (a b : Option NameValue)
     → option_map lowered (option_or a b) ≡ option_or (option_map lowered a) (option_map lowered b)
@@ -98,28 +89,20 @@ module _ (z : Zone) where
       ap (λ (x : NameValue). is_some (fin.get z.sets (record { name = x; record_type = types.NS }))) h
 
   -- the cuts on the way
-  own_cut : (n : NameValue) (b : Bool) → option_map lowered (find (has_servers z) (cond b (n ∷ []) []))
-      ≡ cond b (cond (has_servers z n) (Some (lowered n)) None) None
-  own_cut n true = pick_option (has_servers z n) n None
-  own_cut n false = refl
-
   own_alike : (a b : NameValue) → lowered a ≡ lowered b
       → option_map lowered (find (has_servers z) (if_below z a))
       ≡ option_map lowered (find (has_servers z) (if_below z b))
-  own_alike a b h =
-      let below = below_alike a b h in
-      let servers = servers_alike a b h in
-      own_cut a (is_below z.origin a)
-      ∙ (λ i. cond (below i) (cond (servers i) (Some (h i)) None) None)
-      ∙ sym (own_cut b (is_below z.origin b))
+  own_alike a b h = pick_alike (λ ns. option_map lowered (find (has_servers z) ns)) (is_below z.origin a)
+      (is_below z.origin b) (a ∷ []) (b ∷ []) [] [] (below_alike a b h)
+      (pick_alike (option_map lowered) (has_servers z a) (has_servers z b) (Some a) (Some b) None None
+      (servers_alike a b h) (ap (λ x. Some x) h) (λ e. refl)) (λ e. refl)
 
   one_more : (absolute : Bool) (x : List ℕ) (labels : List (List ℕ))
       → option_map lowered (find (has_servers z) (ends_below z absolute (x ∷ labels)))
       ≡ option_or (option_map lowered (find (has_servers z) (ends_below z absolute labels)))
       (option_map lowered (find (has_servers z) (if_below z (name_with absolute (x ∷ labels)))))
   one_more absolute x labels =
-      ap (option_map lowered) (find-append (has_servers z) (ends_below z absolute labels)
-      (if_below z (name_with absolute (x ∷ labels))))
+      ap (option_map lowered) (way_by z absolute x labels)
       ∙ or_option (find (has_servers z) (ends_below z absolute labels)) (find (has_servers z)
       (if_below z (name_with absolute (x ∷ labels))))
 
@@ -155,8 +138,8 @@ module _ (z : Zone) where
   ends_alike f g (x ∷ xs) (y ∷ ys) h =
       let m : NameValue = name_with f (x ∷ xs) in
       let n : NameValue = name_with g (y ∷ ys) in
-      pick_alike (encloses z m) (encloses z n) m n (end_that_exists z f xs) (end_that_exists z g ys)
-      (encloses_alike m n h) h (ends_alike f g xs ys (ap parent h))
+      pick_alike lowered (encloses z m) (encloses z n) m n (end_that_exists z f xs) (end_that_exists z g ys)
+      (encloses_alike m n h) h (λ e. ends_alike f g xs ys (ap parent h))
 
   sources_alike : (a b : NameValue) → lowered a ≡ lowered b
       → option_map lowered (source z a) ≡ option_map lowered (source z b)
@@ -165,13 +148,10 @@ module _ (z : Zone) where
       let w : NameValue = wildcard_below (encloser z b) in
       let lower : lowered v ≡ lowered w = wildcards_alike (encloser z a) (encloser z b)
       (ends_alike a.absolute b.absolute a.labels b.labels h) in
-      let there = exists_alike a b h in
-      let there_too = exists_alike v w lower in
-      pick_option (exists z a) a (cond (exists z v) (Some v) None)
-      ∙ ap (cond (exists z a) (Some (lowered a))) (pick_option (exists z v) v None)
-      ∙ (λ i. cond (there i) (Some (h i)) (cond (there_too i) (Some (lower i)) None))
-      ∙ sym (pick_option (exists z b) b (cond (exists z w) (Some w) None)
-      ∙ ap (cond (exists z b) (Some (lowered b))) (pick_option (exists z w) w None))
+      pick_alike (option_map lowered) (exists z a) (exists z b) (Some a) (Some b) (if_exists z v) (if_exists z w)
+      (exists_alike a b h) (ap (λ x. Some x) h)
+      (λ e. pick_alike (option_map lowered) (exists z v) (exists z w) (Some v) (Some w) None None
+      (exists_alike v w lower) (ap (λ x. Some x) lower) (λ none. refl))
 
   -- ---- what stands at the source
 
@@ -180,7 +160,7 @@ module _ (z : Zone) where
   records_at n s k = records_of z.class n (at z (record { name = s; record_type = k }))
 
   abbrev asked_at : RecordType → NameValue → NameValue → List (Record RData)
-  asked_at t n s = cond (is_any t) (flat_map (λ (e : RrKey × List Datum). records_of z.class n e.1)
+  asked_at t n s = cond (is_any t) (records_of_sets z.class n
       (filter (λ (e : RrKey × List Datum). same_lower s e.0.name) (fin.entries z.sets))) (records_at n s t)
 
   abbrev at_lowered : RecordType → NameValue → Option NameValue → Finding
@@ -189,19 +169,16 @@ module _ (z : Zone) where
       alias_else (cond (is_cname t || is_any t) None (alias_in (records_at n s types.CNAME))) (asked_at t n s)
 
   lowered_sets : (n : NameValue) (es : List (RrKey × List Datum))
-      → map owner_lowered (flat_map (λ (e : RrKey × List Datum). records_of z.class n e.1) es)
-      ≡ flat_map (λ (e : RrKey × List Datum). records_of z.class (lowered n) e.1) es
+      → map owner_lowered (records_of_sets z.class n es) ≡ records_of_sets z.class (lowered n) es
   lowered_sets n [] = refl
   lowered_sets n (e ∷ es) =
       let one = lowered_records z.class n e.1 in
       let rest = lowered_sets n es in
-      map-append owner_lowered (records_of z.class n e.1)
-      (flat_map (λ (e : RrKey × List Datum). records_of z.class n e.1) es)
-      ∙ (λ i. one i ++ rest i)
+      map-append owner_lowered (records_of z.class n e.1) (records_of_sets z.class n es) ∙ (λ i. one i ++ rest i)
 
   lowered_either : (b : Bool) (n : NameValue) (es : List (RrKey × List Datum)) (k : RrKey)
-      → map owner_lowered (cond b (flat_map (λ (e : RrKey × List Datum). records_of z.class n e.1) es) (records z n k))
-      ≡ cond b (flat_map (λ (e : RrKey × List Datum). records_of z.class (lowered n) e.1) es) (records z (lowered n) k)
+      → map owner_lowered (cond b (records_of_sets z.class n es) (records z n k))
+      ≡ cond b (records_of_sets z.class (lowered n) es) (records z (lowered n) k)
   lowered_either true n es k = lowered_sets n es
   lowered_either false n es k = lowered_records z.class n (at z k)
 
@@ -232,12 +209,11 @@ module _ (z : Zone) where
       → finding_lowered (at_source z t n o) ≡ at_lowered t (lowered n) (option_map lowered o)
   lowered_source t n None = refl
   lowered_source t n (Some s) =
-      let all : List (RrKey × List Datum) = filter (λ (e : RrKey × List Datum). is_owned s e.0) (fin.entries z.sets) in
       let rs : List (Record RData) = records z n (key_of s types.CNAME) in
       let alias = alias_unless (is_cname t || is_any t) (alias_in rs)
       ∙ ap (cond (is_cname t || is_any t) None) (lowered_alias rs
       ∙ ap alias_in (lowered_records z.class n (at z (key_of s types.CNAME)))) in
-      let others = lowered_either (is_any t) n all (key_of s t) in
+      let others = lowered_either (is_any t) n (sets_of z s) (key_of s t) in
       lowered_else (alias_at z t n s) (asked z t n s)
       ∙ (λ i. alias_else (alias i) (others i))
 
@@ -246,26 +222,16 @@ module _ (z : Zone) where
   lowered_cut None f = refl
   lowered_cut (Some m) f = refl
 
-  lowered_within : (b : Bool) (f : Finding) → finding_lowered (cond b f Outside) ≡ cond b (finding_lowered f) Outside
-  lowered_within true f = refl
-  lowered_within false f = refl
-
-  lowered_lookup : (t : RecordType) (n : NameValue) → finding_lowered (lookup z t n)
-      ≡ cond (is_within z.origin n) (cut_else (option_map lowered (cut_over z t n))
-      (at_lowered t (lowered n) (option_map lowered (source z n)))) Outside
-  lowered_lookup t n =
-      lowered_within (is_within z.origin n) (cut_else (cut_over z t n) (at_source z t n (source z n)))
-      ∙ ap (λ f. cond (is_within z.origin n) f Outside)
-      (lowered_cut (cut_over z t n) (at_source z t n (source z n))
-      ∙ ap (cut_else (option_map lowered (cut_over z t n))) (lowered_source t n (source z n)))
-
   -- what the zone has for names that are the same
   pub lookups_alike : (t : RecordType) (a b : NameValue) → lowered a ≡ lowered b
       → finding_lowered (lookup z t a) ≡ finding_lowered (lookup z t b)
   lookups_alike t a b h =
-      let within = within_alike a b h in
       let cuts = cuts_alike t a b h in
       let sources = sources_alike a b h in
-      lowered_lookup t a
-      ∙ (λ i. cond (within i) (cut_else (cuts i) (at_lowered t (h i) (sources i))) Outside)
-      ∙ sym (lowered_lookup t b)
+      let there = lowered_source t a (source z a) ∙ (λ i. at_lowered t (h i) (sources i))
+      ∙ sym (lowered_source t b (source z b)) in
+      pick_alike finding_lowered (is_within z.origin a) (is_within z.origin b)
+      (cut_else (cut_over z t a) (at_source z t a (source z a)))
+      (cut_else (cut_over z t b) (at_source z t b (source z b))) Outside Outside (within_alike a b h)
+      (lowered_cut (cut_over z t a) (at_source z t a (source z a)) ∙ (λ i. cut_else (cuts i) (there i))
+      ∙ sym (lowered_cut (cut_over z t b) (at_source z t b (source z b)))) (λ e. refl)

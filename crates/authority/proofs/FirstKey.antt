@@ -9,7 +9,7 @@ use Rattle.base.specs.RrKey.{key_cmp}
 use Rattle.base.specs.declared.rr_key.RrKey.{RrKey}
 use Rattle.op_use.proofs.OwnerKeys.{from_is, is_from, least}
 use Rattle.std.proofs.Common.{ap, refl, sym, ◌∙◌}
-use Rattle.std.proofs.lemmas.Bool.{cond-false, cond-true, false≢true}
+use Rattle.std.proofs.lemmas.Bool.{cond-false, cond-true, false_from_ne_true, false≢true}
 use Rattle.std.proofs.lemmas.Map.Keys.{sorted_head, sorted_tail}
 use Rattle.std.specs.BTreeMap.Range.{entries_between}
 use Rattle.std.specs.List.Sorted.{IsStrictlySortedBy}
@@ -28,10 +28,6 @@ before_le Less p h = refl
 before_le Equal p h = refl
 before_le Greater p h = cc
 
-pub is_false : (b : Bool) → (b ≡ true → ⊥) → b ≡ false
-is_false true f = absurd (f refl)
-is_false false f = refl
-
 module _ (n : NameValue) where
   abbrev pub covers : RrKey → Bool
   covers k = is_at_or_below n k.name
@@ -40,7 +36,7 @@ module _ (n : NameValue) where
       → AllByRecursion (λ k. key_cmp a k ≡ Less) ks → exists_among n ks ≡ false
   none_after a [] p f h = refl
   none_after a (k ∷ ks) p f (h, hs) =
-      ap (λ b. b || exists_among n ks) (is_false (covers k) (λ t. false≢true (sym f
+      ap (λ b. b || exists_among n ks) (false_from_ne_true (covers k) (λ t. false≢true (sym f
       ∙ below_between n a.name k.name p (before_le (lower_cmp a.name k.name)
       (type_cmp a.record_type k.record_type) h) t)))
       ∙ none_after a ks p f hs
@@ -52,7 +48,7 @@ module _ (n : NameValue) {X : Type 0} where
   first_covered (e ∷ es) = covers n e.0
 
   before : (e : RrKey × X) (es : List (RrKey × X)) → is_from n e.0 ≡ false → covers n e.0 ≡ false
-  before e es f = is_false (covers n e.0) (λ t. false≢true (sym f ∙ from_is n e.0 ∙ below_le n e.0.name t))
+  before e es f = false_from_ne_true (covers n e.0) (λ t. false≢true (sym f ∙ from_is n e.0 ∙ below_le n e.0.name t))
 
   decided : (e : RrKey × X) (es : List (RrKey × X)) → is_from n e.0 ≡ true
       → AllByRecursion (λ k. key_cmp e.0 k ≡ Less) (keys_of es) → (c : Bool) → covers n e.0 ≡ c

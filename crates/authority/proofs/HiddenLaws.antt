@@ -1,6 +1,6 @@
 -- What is answered is the same without the sets strictly below cuts, but for glue.
 use Rattle.authority.proofs.AgreeingAnswers.{others_agree, whole_agrees}
-use Rattle.authority.proofs.AgreeingReplies.{replied_alike}
+use Rattle.authority.proofs.AgreeingReplies.{replied_alike, unless_response}
 use Rattle.authority.proofs.HiddenLemmas.{lookup_same, soa_stands, stays_at}
 use Rattle.authority.proofs.LawLemmas.{cut_stands}
 use Rattle.authority.specs.Agreement.{above_cuts, less_additionals, message_less_additionals}
@@ -14,9 +14,9 @@ use Rattle.base.specs.declared.record_type.RecordType.{RecordType}
 use Rattle.op.specs.Message.{MessageValue}
 use Rattle.op.specs.MessageType.{is_response}
 use Rattle.op_use.specs.Zone.{Zone}
-use Rattle.std.proofs.Common.{ap, refl}
+use Rattle.std.proofs.Common.{ap}
 use Rattle.std.specs.FinMap as fin
-use Rattle.std.specs.Prelude.{Bool, None, Some, [], cond, false, option_map, true, ℕ, ◌≡◌}
+use Rattle.std.specs.Prelude.{[], option_map, ℕ, ◌≡◌}
 
 module _ (z : Zone) where
   abbrev y : Zone
@@ -37,15 +37,9 @@ module _ (z : Zone) where
       → answer z t room [] n ≡ answer (above_cuts z) t room [] n
   whole_same t room n none = whole_agrees z y.sets (lookup_same z) soa_same servers_same t room n none
 
-  unless_response : (b : Bool) (p q : MessageValue) → message_less_additionals p ≡ message_less_additionals q
-      → option_map message_less_additionals (cond b None (Some p)) ≡ option_map message_less_additionals
-      (cond b None (Some q))
-  unless_response true p q h = refl
-  unless_response false p q h = ap (λ (m : MessageValue). Some m) h
-
   pub replies_same : (m : MessageValue)
       → option_map message_less_additionals (reply z m) ≡ option_map message_less_additionals (reply (above_cuts z) m)
-  replies_same m = unless_response (is_response m.metadata.message_type)
+  replies_same m = unless_response message_less_additionals (is_response m.metadata.message_type)
       (framed m (refused_or (header_refusal m) (answer_to z m.queries)))
       (framed m (refused_or (header_refusal m) (answer_to y m.queries)))
       (ap (framed m) (replied_alike z y.sets soa_same less_additionals (λ t n. others_same t 11 n) m))

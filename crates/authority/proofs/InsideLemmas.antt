@@ -1,5 +1,5 @@
 -- Sets that stand neither at the origin nor below it are never looked at.
-use Rattle.authority.proofs.AgreementLemmas.{below_by, kept_agree, lookup_agrees}
+use Rattle.authority.proofs.AgreementLemmas.{any_from, below_by, lookup_agrees, some_passes}
 use Rattle.authority.proofs.SourceLemmas.{source_holds}
 use Rattle.authority.proofs.WayLemmas.{starts}
 use Rattle.authority.specs.Agreement.{Agree, with_sets}
@@ -17,11 +17,11 @@ use Rattle.base.specs.declared.rr_key.RrKey.{RrKey}
 use Rattle.op_use.specs.Zone.{Datum, Zone, is_owned}
 use Rattle.std.proofs.Common.{ap, append_assoc, refl, subst, sym, ◌++◌, ◌∙◌}
 use Rattle.std.specs.Char.{to_ascii_lowercase}
-use Rattle.std.specs.Cmp.{first_so}
+use Rattle.std.proofs.lemmas.Bool.{cond_both}
+use Rattle.std.specs.Cmp.{both_ways, first_so}
 use Rattle.std.specs.FinMap as fin
 use Rattle.std.specs.FinMap.{FinMap}
-use Rattle.std.specs.List.{filter, list_any}
-use Rattle.std.specs.Prelude.{Bool, List, Some, [], cond, false, is_some, map, true, ℕ, ◌||◌, ◌∷◌, ◌≡◌}
+use Rattle.std.specs.Prelude.{Bool, List, Some, [], cond, false, is_some, map, true, ℕ, ◌∷◌, ◌≡◌}
 
 -- what lies in a name that lies in another lies in that
 pub within_too : (a n b : NameValue) → is_within a n ≡ true → is_at_or_below n b ≡ true → is_at_or_below a b ≡ true
@@ -49,17 +49,12 @@ wildcard_within a n w =
 
 -- the closest encloser of a name in the zone is in the zone
 module _ (z : Zone) where
-  pick_within : (n m : NameValue) (b : Bool) → is_within z.origin n ≡ true
-      → (b ≡ false → is_within z.origin m ≡ true) → is_within z.origin (cond b n m) ≡ true
-  pick_within n m true w h = w
-  pick_within n m false w h = h refl
-
   ends_within : (absolute : Bool) (labels : List (List ℕ)) → is_within z.origin (name_with absolute labels) ≡ true
       → is_within z.origin (end_that_exists z absolute labels) ≡ true
   ends_within absolute [] w = w
   ends_within absolute (x ∷ labels) w =
       let n : NameValue = name_with absolute (x ∷ labels) in
-      pick_within n (end_that_exists z absolute labels) (encloses z n) w
+      cond_both (encloses z n) n (end_that_exists z absolute labels) (λ m. is_within z.origin m ≡ true) (λ e. w)
       (λ none. ends_within absolute labels ((starts z.origin absolute (x ∷ labels)
       (below_by z z.sets n w none)).within))
 
@@ -72,26 +67,16 @@ module _ (z : Zone) where
       (wildcard_below (encloser z n)) s (exists z n) (exists z (wildcard_below (encloser z n))) w
       (λ e. wildcard_within z.origin (encloser z n) (encloser_within n w)) h
 
--- whether something stands among entries at keys that pass a test
-any_step : (p : RrKey → Bool) (e : RrKey × List Datum) (fs es : List (RrKey × List Datum)) (b : Bool) → p e.0 ≡ b
-    → list_any p (map (λ x. x.0) fs) ≡ list_any p (map (λ x. x.0) es)
-    → list_any p (map (λ x. x.0) (cond b (e ∷ fs) fs)) ≡ (p e.0 || list_any p (map (λ x. x.0) es))
-any_step p e fs es true t h = ap (λ b. p e.0 || b) h
-any_step p e fs es false t h = h ∙ sym (ap (λ b. b || list_any p (map (λ x. x.0) es)) t)
-
-any_kept : (p : RrKey → Bool) (es : List (RrKey × List Datum))
-    → list_any p (map (λ x. x.0) (filter (λ (e : RrKey × List Datum). p e.0) es)) ≡ list_any p (map (λ x. x.0) es)
-any_kept p [] = refl
-any_kept p (e ∷ es) = any_step p e (filter (λ (e : RrKey × List Datum). p e.0) es) es (p e.0) refl (any_kept p es)
-
 module _ (z : Zone) (sets : FinMap key_cmp (List Datum)) where
   pub exists_agrees : (n : NameValue) → ((k : RrKey) → is_at_or_below n k.name ≡ true
       → fin.get z.sets k ≡ fin.get sets k) → exists z n ≡ exists (with_sets z sets) n
-  exists_agrees n same =
-      let p : RrKey → Bool = λ k. is_at_or_below n k.name in
-      sym (any_kept p (fin.entries z.sets))
-      ∙ ap (λ (es : List (RrKey × List Datum)). list_any p (map (λ x. x.0) es)) (kept_agree p z.sets sets same)
-      ∙ any_kept p (fin.entries sets)
+  exists_agrees n same = both_ways _ _
+      (λ h. let s = some_passes covers z.sets h in
+      any_from covers sets s.0 s.1 (ap (λ o. is_some o) (sym (same s.0 s.1)) ∙ s.2))
+      (λ h. let s = some_passes covers sets h in
+      any_from covers z.sets s.0 s.1 (ap (λ o. is_some o) (same s.0 s.1) ∙ s.2)) where
+        covers : RrKey → Bool
+        covers k = is_at_or_below n k.name
 
   module _ (same : (k : RrKey) → is_at_or_below z.origin k.name ≡ true → fin.get z.sets k ≡ fin.get sets k) where
     inside_agrees : (n : NameValue) → is_within z.origin n ≡ true → exists z n ≡ exists (with_sets z sets) n

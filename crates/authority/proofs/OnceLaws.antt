@@ -3,9 +3,8 @@ use Rattle.authority.proofs.OnceLemmas.{AreOf, AreOfType, IsBlock, IsGood, apart
 use Rattle.authority.proofs.OnceLemmas.{good_lookup, joined, no_block, none_once, records_block}
 use Rattle.authority.proofs.StandingLemmas.{OfFound, alias_owner, all-append, owners_found}
 use Rattle.authority.specs.Answer.{AnswerValue, addresses_found, addresses_of, answer, answer_found, as_negative}
-use Rattle.authority.specs.Answer.{end_like}
-use Rattle.authority.specs.Answer.{extras, host_in, is_given, negative, of_data, owns, referring, with_addresses}
-use Rattle.authority.specs.Answer.{with_authority, with_host}
+use Rattle.authority.specs.Answer.{end_like, extras, host_in, is_given, negative, of_data, owns, referring}
+use Rattle.authority.specs.Answer.{with_addresses, with_authority, with_host}
 use Rattle.authority.specs.Lookup.{Alias, Cut, Data, Finding, NoName, Outside, lookup, records}
 use Rattle.authority.specs.Once.{HasProperSets, same_record}
 use Rattle.authority.specs.Reply.{answer_to, framed, header_refusal, question_refusal, refused_or, reply}
@@ -23,6 +22,7 @@ use Rattle.op_use.specs.Zone.{Zone}
 use Rattle.rr.specs.Record.{type_of_record}
 use Rattle.rr.specs.declared.record.Record.{Record}
 use Rattle.std.proofs.Common.{append_assoc, refl, subst, sym, ◌++◌}
+use Rattle.std.proofs.lemmas.Bool.{cond_both}
 use Rattle.std.proofs.lemmas.List.{append-nil}
 use Rattle.std.proofs.lemmas.Map.Keys.{IsDistinct-cons, IsDistinct-head, IsDistinct-tail}
 use Rattle.std.specs.List.{AllByRecursion, IsDistinct, filter_map, fold}
@@ -144,10 +144,6 @@ module _ (z : Zone) (proper : HasProperSets z) where
         kinds = all-append (λ (q : Record RData). type_of_record q ≡ types.CNAME) done (r ∷ []) h.kinds (kind, tt);
       }
 
-  or_else : (b c : Bool) (x a : AnswerValue) → b ≡ c → IsWhole x → (b ≡ false → IsWhole a) → IsWhole (cond c x a)
-  or_else b true x a e p q = p
-  or_else b false x a e p q = q e
-
   once_by : (t : RecordType) (room : ℕ) (done : List (Record RData)) (n : NameValue) (f : Finding) → lookup z t n ≡ f
       → AreAliases done → owns n done ≡ false → IsWhole (answer_found z t room done n f)
   unfolding answer_found
@@ -158,9 +154,9 @@ module _ (z : Zone) (proper : HasProperSets z) where
   once_by t zero done n (Alias r target) e h new = alone (done ++ r ∷ []) ((one_more t done n target r e h new).once)
   once_by t (suc room) done n (Alias r target) e h new =
       let more = one_more t done n target r e h new in
-      or_else (owns target (done ++ r ∷ [])) (owns target (done ++ r ∷ []))
-      (with_authority ServFail (done ++ r ∷ []) [] [])
-      (answer_found z t room (done ++ r ∷ []) target (lookup z t target)) refl (alone (done ++ r ∷ []) more.once)
+      cond_both (owns target (done ++ r ∷ [])) (with_authority ServFail (done ++ r ∷ []) [] [])
+      (answer_found z t room (done ++ r ∷ []) target (lookup z t target)) IsWhole
+      (λ again. alone (done ++ r ∷ []) more.once)
       (λ fresh. once_by t room (done ++ r ∷ []) target (lookup z t target) refl more fresh)
 
   pub answers_once : (t : RecordType) (room : ℕ) (n : NameValue) → IsWhole (answer z t room [] n)

@@ -1,12 +1,9 @@
 -- No record of what is found stands twice.
-use Rattle.authority.proofs.FirstKey.{is_false}
-use Rattle.authority.proofs.StandingLemmas.{OfFound, alias_of, all-append, by_test, each_shown, of_lookup}
+use Rattle.authority.proofs.StandingLemmas.{OfFound, alias_of, all-append, each_shown, found_set, of_lookup, shown_all}
 use Rattle.authority.specs.Answer.{is_given, owns}
-use Rattle.authority.specs.Lookup.{Finding}
-use Rattle.authority.specs.Lookup.{least_ttl, lookup, record_of, records, records_of}
-use Rattle.authority.specs.Lookup.{shown}
+use Rattle.authority.specs.Lookup.{Finding, least_ttl, lookup, record_of, records, records_of, records_of_sets, shown}
 use Rattle.authority.specs.Once.{HasProperSets, IsProper, same_record}
-use Rattle.base.proofs.names.KeyLemmas.{key_cmp-exact, key_cmp-total}
+use Rattle.base.proofs.names.KeyLemmas.{key_cmp-total}
 use Rattle.base.specs.names.Labels.{NameValue}
 use Rattle.base.specs.names.NameOrder.{folded, lowered, same_name}
 use Rattle.base.specs.names.NameOrderLaws.{same_by-equiv, same_lower-exact}
@@ -26,20 +23,19 @@ use Rattle.op_use.specs.Zone.{Datum, Zone, is_owned}
 use Rattle.rr.specs.Record.{type_of_record}
 use Rattle.rr.specs.declared.record.Record.{Record}
 use Rattle.std.proofs.Common.{ap, refl, rules, subst, sym, ◌++◌, ◌∙◌}
-use Rattle.std.proofs.lemmas.Bool.{false≢true, or_parts}
+use Rattle.std.proofs.Math.Bool.{and-false}
+use Rattle.std.proofs.lemmas.Bool.{false_from_ne_true, false≢true, or_parts}
+use Rattle.std.proofs.lemmas.List.Elements.{All-contains, All-from_recursion}
 use Rattle.std.proofs.lemmas.Map.Keys.{IsDistinct-cons, IsDistinct-head, IsDistinct-tail}
-use Rattle.std.proofs.lemmas.Option.{same_Some}
 use Rattle.std.specs.Bool.{Decides}
+use Rattle.std.specs.Cmp.Derive.{both_true}
 use Rattle.std.specs.Cmp.{first_so, second_so, tied_itself}
 use Rattle.std.specs.FinMap as fin
 use Rattle.std.specs.FinMap.Entries.{below_all, is_sorted}
-use Rattle.std.specs.List.{AllByRecursion, IsDistinct, filter, flat_map, list_any}
-use Rattle.std.specs.Ordering.{is_eq, is_lt, on}
-use Rattle.std.specs.Prelude.{T}
-use Rattle.std.specs.Prelude.{Bool, List, None, Option, Some, [], cond, false, map, not, true, unwrap_or, ℕ, ◌&&◌, ◌||◌}
-use Rattle.std.specs.Prelude.{◌∷◌, ◌≡◌, ◌≢◌}
-use Rattle.std.specs.declared.cmp.Ordering.TheVariants.{Equal, Greater, Less}
-use Rattle.std.specs.declared.cmp.Ordering.{Ordering}
+use Rattle.std.specs.List.{AllByRecursion, IsDistinct, filter, list_any}
+use Rattle.std.specs.Ordering.{is_lt, on}
+use Rattle.std.specs.Prelude.{Bool, List, None, Option, Some, [], T, cond, false, map, not, true, unwrap_or, ℕ, ◌&&◌}
+use Rattle.std.specs.Prelude.{◌||◌, ◌∷◌, ◌≡◌, ◌≢◌}
 
 types_decide : (s t : RecordType) → Decides (same_type s t) (s ≡ t)
 types_decide = search rules
@@ -69,7 +65,7 @@ module _ (P Q : Record RData → Type 0)
   apart_from : (r : Record RData) (qs : List (Record RData)) → P r → AllByRecursion Q qs
       → AllByRecursion (λ (q : Record RData). same_record r q ≡ false) qs
   apart_from r [] p h = tt
-  apart_from r (q ∷ qs) p h = (is_false (same_record r q) (never r q p h.0), apart_from r qs p h.1)
+  apart_from r (q ∷ qs) p h = (false_from_ne_true (same_record r q) (never r q p h.0), apart_from r qs p h.1)
 
   apart_by : (rs qs : List (Record RData)) → AllByRecursion P rs → AllByRecursion Q qs → Apart rs qs
   apart_by [] qs h k = tt
@@ -99,16 +95,12 @@ pub apart_types : (s t : RecordType) (rs qs : List (Record RData)) → s ≢ t �
 apart_types s t rs qs ne h k = apart_by (λ (r : Record RData). type_of_record r ≡ s)
     (λ (q : Record RData). type_of_record q ≡ t) (λ r q p own e. ne (sym p ∙ one_kind r q e ∙ own)) rs qs h k
 
-both_true : (a b : Bool) → a ≡ true → b ≡ true → (a && b) ≡ true
-both_true a b p q = ap (λ c. c && b) p ∙ q
-
 pub apart_given : (n : NameValue) (t : RecordType) (rs qs : List (Record RData)) → is_given rs n t ≡ false → AreOf n qs
     → AreOfType t qs → Apart rs qs
 apart_given n t rs qs h k m = apart_by
     (λ (r : Record RData). (same_name r.name n && same_type (type_of_record r) t) ≡ false)
     (λ (q : Record RData). (q.name ≡ n) × (type_of_record q ≡ t)) (λ r q p own e. false≢true (sym p
-    ∙ both_true (same_name r.name n) (same_type (type_of_record r) t)
-    (ap (same_name r.name) (sym own.0) ∙ one_name r q e)
+    ∙ both_true (ap (same_name r.name) (sym own.0) ∙ one_name r q e)
     ((types_decide (type_of_record r) t).1 (one_kind r q e ∙ own.1)))) rs qs
     (all_false (λ (r : Record RData). same_name r.name n && same_type (type_of_record r) t) rs h) (paired qs k m) where
       paired : (xs : List (Record RData)) → AreOf n xs → AreOfType t xs
@@ -128,13 +120,10 @@ module _ (class : DNSClass) (n : NameValue) (ttl : ℕ) where
 
   apart_shown : (d : Datum) (ds : List Datum) → AllByRecursion (λ (e : Datum). same_data d.rdata e.rdata ≡ false) ds
       → AllByRecursion (λ (q : Record RData). same_record (record_of class n ttl d) q ≡ false) (shown_records ds)
-  apart_shown d [] h = tt
-  apart_shown d (e ∷ ds) h = by_test (λ (q : Record RData). same_record (record_of class n ttl d) q ≡ false) class n ttl
-      (not (is_empty_data e.rdata)) e ds (other (same_name n n) (same_data d.rdata e.rdata) h.0)
-      (apart_shown d ds h.1) where
-        other : (a b : Bool) → b ≡ false → (a && b) ≡ false
-        other true b p = p
-        other false b p = refl
+  apart_shown d ds h = shown_all (λ (q : Record RData). same_record (record_of class n ttl d) q ≡ false) class n ttl ds
+      (λ k e below. ap (λ b. same_name n n && b)
+      (All-from_recursion (λ (x : Datum). same_data d.rdata x.rdata ≡ false) ds h k e below)
+      ∙ and-false (same_name n n))
 
   once_by : (d : Datum) (ds : List Datum) (b : Bool) → IsDistinct same_record (shown_records ds)
       → AllByRecursion (λ (q : Record RData). same_record (record_of class n ttl d) q ≡ false) (shown_records ds)
@@ -152,9 +141,8 @@ module _ (class : DNSClass) (n : NameValue) (ttl : ℕ) where
 
   shown_types : (t : RecordType) (ds : List Datum) → AllByRecursion (λ (d : Datum). type_of_data d.rdata ≡ t) ds
       → AreOfType t (shown_records ds)
-  shown_types t [] h = tt
-  shown_types t (d ∷ ds) h = by_test (λ (r : Record RData). type_of_record r ≡ t) class n ttl
-      (not (is_empty_data d.rdata)) d ds h.0 (shown_types t ds h.1)
+  shown_types t ds h = shown_all (λ (r : Record RData). type_of_record r ≡ t) class n ttl ds
+      (All-from_recursion (λ (d : Datum). type_of_data d.rdata ≡ t) ds h)
 
 -- records of one owner and one type, none twice
 pub record IsBlock (n : NameValue) (t : RecordType) (rs : List (Record RData)) : Type 0 where
@@ -175,14 +163,8 @@ set_block class n e h = record {
 
 found_proper : (q : RrKey) (ds : List Datum) (es : List (RrKey × List Datum)) → AllByRecursion IsProper es
     → fin.find key_cmp q es ≡ Some ds → IsProper (q, ds)
-found_proper q ds [] all h = cc
-found_proper q ds (e ∷ es) all h = go (key_cmp q e.0) refl h (found_proper q ds es all.1) where
-  go : (o : Ordering) → key_cmp q e.0 ≡ o → cond (is_eq o) (Some e.1) (fin.find key_cmp q es) ≡ Some ds
-      → (fin.find key_cmp q es ≡ Some ds → IsProper (q, ds)) → IsProper (q, ds)
-  go Equal t found more = subst (λ (x : RrKey × List Datum). IsProper x)
-      (λ i. (sym (key_cmp-exact q e.0 t) i, same_Some e.1 ds found i)) all.0
-  go Less t found more = more found
-  go Greater t found more = more found
+found_proper q ds es all h =
+    All-contains IsProper es (q, ds) (All-from_recursion IsProper es all) (found_set q es ds h)
 
 module _ (z : Zone) (proper : HasProperSets z) where
   pub records_block : (n : NameValue) (k : RrKey) → IsBlock n k.record_type (records z n k)
@@ -201,7 +183,7 @@ module _ (z : Zone) (proper : HasProperSets z) where
   kept s es = filter (λ (e : RrKey × List Datum). is_owned s e.0) es
 
   abbrev given : NameValue → List (RrKey × List Datum) → List (Record RData)
-  given n es = flat_map (λ (e : RrKey × List Datum). records_of z.class n e.1) es
+  given n es = records_of_sets z.class n es
 
   -- records of other types than one
   abbrev Lack : RecordType → List (Record RData) → Type 0

@@ -19,6 +19,7 @@ use Rattle.op_use.proofs.OwnerKeys.{least, next_owned, owned_entry, owned_is, st
 use Rattle.op_use.specs.Zone.{is_owned}
 use Rattle.rr.specs.RecordSet.{SetValue}
 use Rattle.std.proofs.Common.{ap, refl, subst, sym, ◌∙◌}
+use Rattle.std.proofs.Math.Bool.{or-true}
 use Rattle.std.proofs.lemmas.Bool.{cond-false}
 use Rattle.std.proofs.lemmas.List.Sums.{take_while-cons}
 use Rattle.std.proofs.lemmas.Map.Entries.{lookup-filter-keys}
@@ -26,21 +27,13 @@ use Rattle.std.specs.BTreeMap as tree
 use Rattle.std.specs.BTreeMap.Range.{entries_between}
 use Rattle.std.specs.BTreeMap.{BTreeMap, is_at}
 use Rattle.std.specs.Bool.{then_some}
-use Rattle.std.specs.Cmp.{first_so}
+use Rattle.std.specs.Cmp.{both_tied, first_so}
 use Rattle.std.specs.List.Sorted.{IsStrictlySortedBy}
 use Rattle.std.specs.List.{take_while}
 use Rattle.std.specs.Map.{lookup}
 use Rattle.std.specs.Option.{option_copied, option_or}
-use Rattle.std.specs.Ordering.{is_eq, ordering_then}
 use Rattle.std.specs.Prelude.{Bool, List, None, Option, Some, [], cond, false, true, ◌&&◌, ◌||◌, ◌∷◌, ◌≡◌}
-use Rattle.std.specs.declared.cmp.Ordering.TheVariants.{Equal, Greater, Less}
-use Rattle.std.specs.declared.cmp.Ordering.{Ordering}
 use Rattle.std.specs.declared.ops.Bound.TheVariants.{Included, Unbounded}
-
-both_eq : (x y : Ordering) → is_eq (ordering_then x y) ≡ (is_eq x && is_eq y)
-both_eq Less y = refl
-both_eq Equal y = refl
-both_eq Greater y = refl
 
 later : (o : Option SetValue) (b : Bool) (s : SetValue) (more : Option SetValue)
     → option_or (option_or o (then_some b s)) more ≡ option_or o (cond b (Some s) more)
@@ -51,8 +44,8 @@ later (Some x) b s more = refl
 module _ (m : BTreeMap RrKey SetValue) (n : NameValue) where
   -- a key of the name is found by its type
   by_type : (t : RecordType) (k : RrKey) → is_at (key_cmp (key_of n t)) k ≡ (is_owned n k && same_type t k.record_type)
-  by_type t k = both_eq (lower_cmp (lowered n) k.name) (type_cmp t k.record_type)
-      ∙ (λ i. sym (owned_is n k) i && sym (keys_match type_number type_rank t k.record_type) i)
+  by_type t k = sym (both_tied _ _ (lower_cmp (lowered n) k.name) (type_cmp t k.record_type) (owned_is n k)
+      (keys_match type_number type_rank t k.record_type))
 
   covers_own : (k : RrKey) → is_owned n k ≡ true → is_at_or_below n k.name ≡ true
   covers_own k h =
@@ -107,16 +100,13 @@ module _ (m : BTreeMap RrKey SetValue) (n : NameValue) where
         → option_copied b.asked ≡ option_or (option_copied a.asked) (then_some (same_type t k.record_type) s)
         → IsWalk t a it → IsWalk t b es
     walk_next t a b there servers alias asked h = (
-      ap (λ c. c || first_covered n es) there ∙ sym (or_true a.exists)
+      ap (λ c. c || first_covered n es) there ∙ sym (or-true a.exists)
           ∙ ap (λ c. a.exists || c) (sym (covers_own k own))
           ∙ ap (λ xs. a.exists || first_covered n xs) (sym is) ∙ h.0,
       sought_next types.NS (option_copied a.servers) (option_copied b.servers) servers h.1,
       sought_next types.CNAME (option_copied a.alias) (option_copied b.alias) alias h.2,
       sought_next t (option_copied a.asked) (option_copied b.asked) asked h.3,
-    ) where
-      or_true : (c : Bool) → (c || true) ≡ true
-      or_true true = refl
-      or_true false = refl
+    )
 
   pub none_left : (it es : List (RrKey × SetValue)) (e : RrKey × SetValue) → it ≡ e ∷ es → is_owned n e.0 ≡ false
       → take_while (owned_entry n) it ≡ []

@@ -1,7 +1,7 @@
 -- A reply always has room: its one question was read, and 512 bytes are allowed.
 use Rattle.authority.specs.Reply.{framed, header_refusal, answer_to, one_question, only_code, refused_or}
-use Rattle.authority.specs.Sent.{is_cut_short, malformed_by, most_sent, sent, sent_by, sent_of}
-use Rattle.authority.specs.Sent.{some_bytes, whole_or_less}
+use Rattle.authority.specs.Sent.{is_cut_short, malformed_by, most_sent, sent, sent_by, sent_of, some_bytes}
+use Rattle.authority.specs.Sent.{whole_or_less}
 use Rattle.authority.specs.Answer.{is_none}
 use Rattle.authority.specs.declared.sending.Carrier.TheVariants as carriers
 use Rattle.authority.specs.declared.sending.Carrier.{Carrier}
@@ -22,8 +22,7 @@ use Rattle.op.specs.declared.header.Header.{Header}
 use Rattle.op.specs.declared.query.Query.{Query}
 use Rattle.op.specs.declared.response_code.ResponseCode.TheVariants.{FormErr}
 use Rattle.op_use.specs.Zone.{Zone}
-use Rattle.std.proofs.Common.{Err, List, None, Ok, Result, Some, [], ap, arith, cond, false, refl, true, ◌+◌}
-use Rattle.std.proofs.Common.{◌≤◌}
+use Rattle.std.proofs.Common.{Err, List, None, Ok, Result, Some, [], ap, arith, cond, false, refl, true, ◌+◌, ◌≤◌}
 use Rattle.std.specs.Prelude.{Bool, ℕ, ◌&&◌, ◌∷◌, ◌≡◌}
 
 module _ (limit : ℕ) (e : ProtoError) where

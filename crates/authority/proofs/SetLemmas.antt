@@ -1,6 +1,6 @@
 -- The sets of a map as those of the zone that it holds.
 use Rattle.authority.specs.Found.{answered}
-use Rattle.authority.specs.Lookup.{exists, exists_among, records, records_of}
+use Rattle.authority.specs.Lookup.{exists, exists_among, records, records_of, records_of_sets}
 use Rattle.base.proofs.names.KeyLemmas.{key_cmp-exact, key_cmp-total}
 use Rattle.base.specs.names.Labels.{NameValue}
 use Rattle.base.specs.names.Parents.{is_at_or_below}
@@ -88,13 +88,13 @@ kept_entries owner (e ∷ es) = kept_step owner e _ _ (is_owned owner e.0) (kept
 pub all_records : (class : DNSClass) (n owner : NameValue) (es : List (RrKey × SetValue)) (found : List
     (Bor SetValue)) → IsStrictlySortedBy key_cmp (keys_of es)
     → map (λ (s : Bor SetValue). s.now) found ≡ values_of (filter (λ (e : RrKey × SetValue). is_owned owner e.0) es)
-    → flat_map (λ (e : RrKey × List Datum). records_of class n e.1) (filter (λ
-    (e : RrKey × List Datum). is_owned owner e.0) (fin.entries (fin.from_entries {R = key_cmp} (map entry_of es))))
+    → records_of_sets class n (filter (λ (e : RrKey × List Datum). is_owned owner e.0)
+    (fin.entries (fin.from_entries {R = key_cmp} (map entry_of es))))
     ≡ flat_map (λ (s : Bor SetValue). answered class n s.now) found
 all_records class n owner es found sorted h =
-    ap (λ xs. flat_map (λ (e : RrKey × List Datum). records_of class n e.1) (filter (λ
-    (e : RrKey × List Datum). is_owned owner e.0) xs)) (entries_are es sorted)
-    ∙ ap (flat_map (λ (e : RrKey × List Datum). records_of class n e.1)) (kept_entries owner es)
+    ap (λ xs. records_of_sets class n (filter (λ (e : RrKey × List Datum). is_owned owner e.0) xs))
+    (entries_are es sorted)
+    ∙ ap (records_of_sets class n) (kept_entries owner es)
     ∙ flat_map-map (λ (e : RrKey × List Datum). records_of class n e.1) entry_of (filter (λ
     (e : RrKey × SetValue). is_owned owner e.0) es)
     ∙ sym (flat_map-map (answered class n) (λ (e : RrKey × SetValue). e.1) (filter (λ

@@ -1,5 +1,4 @@
 -- The sets of a map from a key on, in a transfer.
-use Rattle.authority.proofs.FirstKey.{is_false}
 use Rattle.authority.specs.Transfer.{given, given_from, is_between, records_from}
 use Rattle.base.proofs.names.BelowLemmas.{below_le}
 use Rattle.base.proofs.names.KeyLemmas.{key_cmp-exact, key_cmp-total}
@@ -13,7 +12,7 @@ use Rattle.op_use.proofs.OwnerKeys.{from_is, least}
 use Rattle.rr.specs.RecordSet.{SetValue, is_soa}
 use Rattle.std.proofs.Common.{ap, append_assoc, refl, subst, sym, ◌++◌, ◌∙◌}
 use Rattle.std.proofs.Math.Bool.{and-true}
-use Rattle.std.proofs.lemmas.Bool.{cond-false, cond-true, false≢true}
+use Rattle.std.proofs.lemmas.Bool.{cond-false, cond-true, false_from_ne_true, false≢true}
 use Rattle.std.proofs.lemmas.Map.Keys.{sorted_head, sorted_tail}
 use Rattle.std.specs.BTreeMap.Range.{entries_between, range_contains}
 use Rattle.std.specs.Cmp.{tied_itself}
@@ -129,7 +128,7 @@ module _ (origin : NameValue) (class : DNSClass) where
 
   before_none : (e : RrKey × SetValue) → stands_from (least origin) e ≡ false → given origin class 0 e ≡ []
   before_none e f = cond-false _ _ _ (ap (λ b. b && not (is_soa e.0.record_type && same_name e.0.name origin))
-      (is_false (is_at_or_below origin e.0.name)
+      (false_from_ne_true (is_at_or_below origin e.0.name)
       (λ t. false≢true (sym f ∙ from_is origin e.0 ∙ below_le origin e.0.name t))))
 
   -- nothing is given before the least key of the origin

@@ -14,7 +14,8 @@ use Rattle.op_use.specs.Applying.{zone_of_map}
 use Rattle.op_use.specs.Zone.{Zone}
 use Rattle.rr.specs.RecordSet.{SetValue}
 use Rattle.std.proofs.Common.{ap, append_assoc, drop, refl, subst, sym, ◌++◌, ◌∙◌}
-use Rattle.std.proofs.lemmas.Bool.{cond-false, cond-true, false≢true, or_parts}
+use Rattle.std.proofs.lemmas.Bool.{cond-false, cond-true, false_from_ne_true, false≢true, or_parts}
+use Rattle.std.proofs.lemmas.List.Folds.{Any-from_list_any, list_any-from_Any}
 use Rattle.std.proofs.lemmas.Option.{same_Some}
 use Rattle.std.specs.BTreeMap as tree
 use Rattle.std.specs.BTreeMap.{BTreeMap}
@@ -62,19 +63,12 @@ under_wildcard n b h =
       labels = lies.labels ∙ sym (append_assoc lies.front (map to_ascii_lowercase asterisk ∷ []) (folded n));
     })
 
-either_false : (a b c : Bool) → (c ≡ true → a ≡ true) → (a || b) ≡ false → (d : Bool) → (b ≡ false → d ≡ false)
-    → (c || d) ≡ false
-either_false true b c f h d g = absurd (false≢true (sym h))
-either_false false b true f h d g = absurd (false≢true (f refl))
-either_false false b false f h d g = g h
-
 -- where nothing stands at a name or below it, nothing stands at its asterisk
 none_under : (n : NameValue) (ks : List RrKey) → exists_among n ks ≡ false → exists_among (wildcard_below n) ks ≡ false
-none_under n [] h = refl
-none_under n (k ∷ ks) h =
-    either_false (is_at_or_below n k.name) (exists_among n ks) (is_at_or_below (wildcard_below n) k.name)
-    (under_wildcard n k.name) h
-    (exists_among (wildcard_below n) ks) (none_under n ks)
+none_under n ks h = false_from_ne_true _ (λ t.
+    let a = Any-from_list_any (λ (k : RrKey). is_at_or_below (wildcard_below n) k.name) ks t in
+    false≢true (sym h ∙ list_any-from_Any (λ (k : RrKey). is_at_or_below n k.name) ks
+    (a.0, a.1, a.2, a.3, under_wildcard n a.1.name a.4)))
 
 module _ (origin : NameValue) (m : BTreeMap RrKey SetValue) where
   abbrev z_of : DNSClass → Zone

@@ -3,8 +3,8 @@ use Rattle.authority.specs.Chain.IsChain.{ends, leads}
 use Rattle.authority.specs.Chain.{AreLed, IsChain}
 use Rattle.authority.specs.Lookup.{Alias, Cut, Data, Finding, NoName, Outside, alias_at, alias_else, alias_in, alias_or}
 use Rattle.authority.specs.Lookup.{asked, at_source, cut_else, cut_over, least_ttl, lookup, record_of, records}
-use Rattle.authority.specs.Lookup.{records_of, shown, source, target_of}
-use Rattle.authority.specs.Standing.{StandsIn, StandsInZone}
+use Rattle.authority.specs.Lookup.{records_of, records_of_sets, sets_of, shown, source, target_of}
+use Rattle.authority.specs.Standing.{StandsInZone}
 use Rattle.base.proofs.names.KeyLemmas.{key_cmp-exact}
 use Rattle.base.specs.names.Labels.{NameValue}
 use Rattle.base.specs.names.NameOrder.{exact, lowered}
@@ -20,22 +20,18 @@ use Rattle.base_data.specs.declared.rdata.RData.{RData}
 use Rattle.op_use.specs.Server.{is_any, is_cname}
 use Rattle.op_use.specs.Zone.{Datum, Zone, at, is_owned}
 use Rattle.rr.specs.declared.record.Record.{Record}
-use Rattle.std.proofs.Common.{ap, inl, inr, refl, subst, sym, ◌++◌, ◌∙◌}
+use Rattle.std.proofs.Common.{ap, arith, inl, inr, refl, subst, sym, ◌++◌, ◌∙◌}
+use Rattle.std.proofs.lemmas.Bool.{cond_both}
+use Rattle.std.proofs.lemmas.List.Elements.{All-contains_itself, All-filter, All-map, Contains-append_right}
+use Rattle.std.proofs.lemmas.List.Elements.{filter_passes, recursion_from_All}
 use Rattle.std.proofs.lemmas.Option.{same_Some}
 use Rattle.std.specs.FinMap as fin
-use Rattle.std.specs.List.{AllByRecursion, filter, flat_map}
+use Rattle.std.specs.List.{All, AllByRecursion, Contains}
 use Rattle.std.specs.Ordering.{is_eq}
 use Rattle.std.specs.Prelude.{Bool, List, None, Option, Some, [], cond, false, map, not, true, unwrap_or, ℕ, ◌||◌, ◌∷◌}
-use Rattle.std.specs.Prelude.{◌≡◌}
-use Rattle.std.specs.Prelude.{◌⊎◌}
+use Rattle.std.specs.Prelude.{◌≡◌, ◌⊎◌}
 use Rattle.std.specs.declared.cmp.Ordering.TheVariants.{Equal, Greater, Less}
 use Rattle.std.specs.declared.cmp.Ordering.{Ordering}
-
-stands_here : {X : Type 0} (x : X) (xs : List X) → StandsIn (x ∷ xs) x
-stands_here x xs = record { before = []; after = xs; whole = refl }
-
-stands_later : {X : Type 0} (x y : X) (xs : List X) → StandsIn xs x → StandsIn (y ∷ xs) x
-stands_later x y xs h = record { before = y ∷ h.before; after = h.after; whole = ap (λ zs. y ∷ zs) h.whole }
 
 pub all-append : {X : Type 0} (P : X → Type 0) (xs ys : List X) → AllByRecursion P xs → AllByRecursion P ys
     → AllByRecursion P (xs ++ ys)
@@ -43,18 +39,36 @@ all-append P [] ys h k = k
 all-append P (x ∷ xs) ys h k = (h.0, all-append P xs ys h.1 k)
 
 -- what holds of the records of all data holds of those that are answered
-module _ (P : Record RData → Type 0) (class : DNSClass) (n : NameValue) (ttl : ℕ) where
-  pub by_test : (b : Bool) (d : Datum) (ds : List Datum) → P (record_of class n ttl d)
-      → AllByRecursion P (map (record_of class n ttl) (shown ds))
-      → AllByRecursion P (map (record_of class n ttl) (cond b (d ∷ shown ds) (shown ds)))
-  by_test true d ds h more = (h, more)
-  by_test false d ds h more = more
+module _ (P : Record RData → Type 0) (class : DNSClass) (n : NameValue) where
+  module _ (ttl : ℕ) (ds : List Datum) where
+    pub shown_all : All (λ (d : Datum). P (record_of class n ttl d)) ds
+        → AllByRecursion P (map (record_of class n ttl) (shown ds))
+    shown_all h = recursion_from_All P (map (record_of class n ttl) (shown ds))
+        (All-map P (record_of class n ttl) (shown ds) (All-filter (λ (d : Datum). not (is_empty_data d.rdata))
+        (λ (d : Datum). P (record_of class n ttl d)) ds h))
 
-  pub each_shown : (ds : List Datum) → ((d : Datum) → StandsIn ds d → P (record_of class n ttl d))
-      → AllByRecursion P (map (record_of class n ttl) (shown ds))
-  each_shown [] f = tt
-  each_shown (d ∷ ds) f = by_test (not (is_empty_data d.rdata)) d ds (f d (stands_here d ds))
-      (each_shown ds (λ e h. f e (stands_later e d ds h)))
+    pub each_shown : ((d : Datum) → Contains ds d → P (record_of class n ttl d))
+        → AllByRecursion P (map (record_of class n ttl) (shown ds))
+    each_shown f = shown_all (λ k d below. f _ (All-contains_itself ds k d below))
+
+  each_set : (es : List (RrKey × List Datum))
+      → AllByRecursion (λ (e : RrKey × List Datum). AllByRecursion P (records_of class n e.1)) es
+      → AllByRecursion P (records_of_sets class n es)
+  each_set [] h = tt
+  each_set (e ∷ es) (h, hs) =
+      all-append P (records_of class n e.1) (records_of_sets class n es) h (each_set es hs)
+
+-- a set that is found stands among the entries
+pub found_set : (q : RrKey) (es : List (RrKey × List Datum)) (ds : List Datum) → fin.find key_cmp q es ≡ Some ds
+    → Contains es (q, ds)
+found_set q [] ds h = cc
+found_set q (e ∷ es) ds h = go (key_cmp q e.0) refl h (found_set q es ds) where
+  go : (o : Ordering) → key_cmp q e.0 ≡ o → cond (is_eq o) (Some e.1) (fin.find key_cmp q es) ≡ Some ds
+      → (fin.find key_cmp q es ≡ Some ds → Contains es (q, ds)) → Contains (e ∷ es) (q, ds)
+  go Equal t found more =
+      (0, omega arith, λ i. (sym (key_cmp-exact q e.0 t) i, same_Some e.1 ds found i))
+  go Less t found more = Contains-append_right (e ∷ []) es (q, ds) (more found)
+  go Greater t found more = Contains-append_right (e ∷ []) es (q, ds) (more found)
 
 -- the alias that is first among records is one of them
 module _ (P : Record RData → Type 0) (r : Record RData) (target : NameValue) where
@@ -121,21 +135,15 @@ module _ (z : Zone) (t : RecordType) (n : NameValue) where
       (owned_records (at z (key_of s types.CNAME))) h
 
   owned_sets : (es : List (RrKey × List Datum))
-      → AllByRecursion HasOwner (flat_map (λ (e : RrKey × List Datum). records_of z.class n e.1) es)
+      → AllByRecursion (λ (e : RrKey × List Datum). AllByRecursion HasOwner (records_of z.class n e.1)) es
   owned_sets [] = tt
-  owned_sets (e ∷ es) = all-append HasOwner (records_of z.class n e.1) (flat_map (λ
-      (e : RrKey × List Datum). records_of z.class n e.1) es) (owned_records e.1) (owned_sets es)
-
-  owned_asked_by : (b : Bool) (s : NameValue) → AllByRecursion HasOwner (cond b
-      (flat_map (λ (e : RrKey × List Datum). records_of z.class n e.1)
-      (filter (λ (e : RrKey × List Datum). is_owned s e.0) (fin.entries z.sets))) (records z n (key_of s t)))
-  owned_asked_by true s =
-      owned_sets (filter (λ (e : RrKey × List Datum). is_owned s e.0) (fin.entries z.sets))
-  owned_asked_by false s = owned_records (at z (key_of s t))
+  owned_sets (e ∷ es) = (owned_records e.1, owned_sets es)
 
   pub owners_found : OfFound HasOwner (AllByRecursion HasOwner) (lookup z t n)
   owners_found = of_lookup HasOwner (AllByRecursion HasOwner) z t n (λ s e r target h. owned_at s r target h)
-      (λ s e. owned_asked_by (is_any t) s)
+      (λ s e. cond_both (is_any t) _ _ (AllByRecursion HasOwner)
+      (λ any. each_set HasOwner z.class n (sets_of z s) (owned_sets (sets_of z s)))
+      (λ one. owned_records (at z (key_of s t))))
 
   pub alias_owner : (r : Record RData) (target : NameValue) → lookup z t n ≡ Alias r target → r.name ≡ n
   alias_owner r target h = subst (OfFound HasOwner (AllByRecursion HasOwner)) h owners_found
@@ -147,7 +155,7 @@ module _ (z : Zone) (t : RecordType) (n s : NameValue) (is_source : source z n �
   Stands r = StandsInZone z r
 
   -- the records of a set that stands in the zone
-  of_set : (set : RrKey × List Datum) → StandsIn (fin.entries z.sets) set → is_owned s set.0 ≡ true
+  of_set : (set : RrKey × List Datum) → Contains (fin.entries z.sets) set → is_owned s set.0 ≡ true
       → AllByRecursion Stands (records_of z.class n set.1)
   of_set set stands owned = each_shown Stands z.class n (least_ttl (shown set.1)) set.1 (λ d there. record {
     from = s;
@@ -160,35 +168,15 @@ module _ (z : Zone) (t : RecordType) (n s : NameValue) (is_source : source z n �
     same = refl;
   })
 
-  abbrev More : List (RrKey × List Datum) → Type 0
-  More xs = AllByRecursion Stands (flat_map (λ (e : RrKey × List Datum). records_of z.class n e.1) xs)
-
-  of_sets : (es : List (RrKey × List Datum)) → ((e : RrKey × List Datum) → StandsIn es e
-      → StandsIn (fin.entries z.sets) e) → AllByRecursion Stands
-      (flat_map (λ (e : RrKey × List Datum). records_of z.class n e.1)
-      (filter (λ (e : RrKey × List Datum). is_owned s e.0) es))
-  of_sets [] there = tt
-  of_sets (e ∷ es) there = go (is_owned s e.0) refl (of_sets es (λ x h. there x (stands_later x e es h))) where
-    go : (b : Bool) → is_owned s e.0 ≡ b → More (filter (λ (e : RrKey × List Datum). is_owned s e.0) es)
-        → More (cond b (e ∷ filter (λ (e : RrKey × List Datum). is_owned s e.0) es) (filter (λ
-        (e : RrKey × List Datum). is_owned s e.0) es))
-    go true owned more = all-append Stands (records_of z.class n e.1) (flat_map (λ
-        (e : RrKey × List Datum). records_of z.class n e.1) (filter (λ (e : RrKey × List Datum). is_owned s e.0) es))
-        (of_set e (there e (stands_here e es)) owned) more
-    go false owned more = more
+  of_sets : AllByRecursion Stands (records_of_sets z.class n (sets_of z s))
+  of_sets =
+      let owned : RrKey × List Datum → Bool = λ e. is_owned s e.0 in
+      let es = fin.entries z.sets in
+      each_set Stands z.class n (sets_of z s) (recursion_from_All (λ (e : RrKey × List Datum). AllByRecursion Stands
+      (records_of z.class n e.1)) (sets_of z s) (λ k d below. of_set _
+      (All-filter owned (Contains es) es (All-contains_itself es) k d below) (filter_passes owned es k d below)))
 
   -- the records under a key of the source
-  found_set : (q : RrKey) (es : List (RrKey × List Datum)) (ds : List Datum) → fin.find key_cmp q es ≡ Some ds
-      → StandsIn es (q, ds)
-  found_set q [] ds h = cc
-  found_set q ((k, v) ∷ es) ds h = go (key_cmp q k) refl h (found_set q es ds) where
-    go : (o : Ordering) → key_cmp q k ≡ o → cond (is_eq o) (Some v) (fin.find key_cmp q es) ≡ Some ds
-        → (fin.find key_cmp q es ≡ Some ds → StandsIn es (q, ds)) → StandsIn ((k, v) ∷ es) (q, ds)
-    go Equal e found more = subst (λ (x : RrKey × List Datum). StandsIn ((k, v) ∷ es) x)
-        (λ i. (sym (key_cmp-exact q k e) i, same_Some v ds found i)) (stands_here (k, v) es)
-    go Less e found more = stands_later (q, ds) (k, v) es (more found)
-    go Greater e found more = stands_later (q, ds) (k, v) es (more found)
-
   of_found : (q : RrKey) (o : Option (List Datum)) → fin.get z.sets q ≡ o → is_owned s q ≡ true
       → AllByRecursion Stands (records_of z.class n (unwrap_or o []))
   of_found q None e owned = tt
@@ -199,18 +187,12 @@ module _ (z : Zone) (t : RecordType) (n s : NameValue) (is_source : source z n �
   of_type : (k : RecordType) → AllByRecursion Stands (records z n (key_of s k))
   of_type k = of_found (key_of s k) (fin.get z.sets (key_of s k)) refl ((same_by-equiv exact).refl (lowered s))
 
-  stands_asked_by : (b : Bool) → AllByRecursion Stands (cond b
-      (flat_map (λ (e : RrKey × List Datum). records_of z.class n e.1)
-      (filter (λ (e : RrKey × List Datum). is_owned s e.0) (fin.entries z.sets))) (records z n (key_of s t)))
-  stands_asked_by true = of_sets (fin.entries z.sets) (λ e h. h)
-  stands_asked_by false = of_type t
-
   stands_alias : (r : Record RData) (target : NameValue) → alias_at z t n s ≡ Some (r, target) → Stands r
   stands_alias r target h = alias_of z t n (is_cname t || is_any t) (records z n (key_of s types.CNAME)) r target Stands
       (of_type types.CNAME) h
 
   stands_asked : AllByRecursion Stands (asked z t n s)
-  stands_asked = stands_asked_by (is_any t)
+  stands_asked = cond_both (is_any t) _ _ (AllByRecursion Stands) (λ any. of_sets) (λ one. of_type t)
 
 module _ (z : Zone) (t : RecordType) where
   abbrev IsThere : Record RData → Type 0

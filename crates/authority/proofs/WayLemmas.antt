@@ -1,5 +1,4 @@
 -- The ends of a name that lie below the origin, and the cuts there.
-use Rattle.authority.proofs.FirstKey.{is_false}
 use Rattle.authority.specs.Found.{IsCutSet}
 use Rattle.authority.specs.Lookup.{Cut, Finding, cut_else, cut_over, ends_below, has_servers, if_below, is_ds}
 use Rattle.authority.specs.Lookup.{name_with, way}
@@ -19,7 +18,7 @@ use Rattle.op_use.specs.Applying.{zone_of_map}
 use Rattle.op_use.specs.Zone.{Zone}
 use Rattle.rr.specs.RecordSet.{SetValue}
 use Rattle.std.proofs.Common.{ap, arith, drop, length-append, refl, rules, subst, sym, ◌++◌, ◌+◌, ◌∙◌}
-use Rattle.std.proofs.lemmas.Bool.{false≢true}
+use Rattle.std.proofs.lemmas.Bool.{false_from_ne_true, false≢true}
 use Rattle.std.proofs.lemmas.List.Folds.{find-append}
 use Rattle.std.specs.BTreeMap as tree
 use Rattle.std.specs.BTreeMap.{BTreeMap}
@@ -96,7 +95,8 @@ module _ (a : NameValue) (absolute : Bool) where
         labels = ap (λ (xs : List (List ℕ)). map to_ascii_lowercase label ∷ xs) lies.labels;
       }) in
       ap (λ b. b && not (same_name (name_with absolute (label ∷ labels)) a)) more
-      ∙ ap not (is_false _ (λ t. longer label labels lies.front lies.labels ((same_by-is folded (name_with absolute
+      ∙ ap not (false_from_ne_true _ (λ t. longer label labels lies.front lies.labels
+      ((same_by-is folded (name_with absolute
       (label ∷ labels)) a).0 t).1))
 
 -- no end of a name that isn't below the origin is
@@ -105,18 +105,30 @@ no_ends : (z : Zone) (absolute : Bool) (labels : List (List ℕ))
 no_ends z absolute [] h = refl
 no_ends z absolute (label ∷ labels) h =
     let n : NameValue = name_with absolute (label ∷ labels) in
-    ap (λ xs. xs ++ if_below z n) (no_ends z absolute labels (is_false _ (λ t. false≢true (sym h
+    ap (λ xs. xs ++ if_below z n) (no_ends z absolute labels (false_from_ne_true _ (λ t. false≢true (sym h
     ∙ below_more z.origin absolute label labels t))))
     ∙ ap (λ b. cond b (n ∷ []) []) h
 
-pub no_way : (z : Zone) (n : NameValue) → is_below z.origin n ≡ false → way z n ≡ []
-no_way z n h = no_ends z n.absolute n.labels h
+-- the highest cut on the way is that on the way above, or else the name's own
+module _ (z : Zone) where
+  abbrev pub cut_on : Bool → List (List ℕ) → Option NameValue
+  cut_on absolute labels = find (has_servers z) (ends_below z absolute labels)
 
-one_more : (z : Zone) (absolute : Bool) (labels : List (List ℕ)) → is_below z.origin (name_with absolute labels) ≡ true
-    → ends_below z absolute labels ≡ ends_below z absolute (drop 1 labels) ++ name_with absolute labels ∷ []
-one_more z absolute [] h = let s : Starts z.origin absolute [] = starts z.origin absolute [] h in cc
-one_more z absolute (label ∷ labels) h =
-    ap (λ b. ends_below z absolute labels ++ cond b (name_with absolute (label ∷ labels) ∷ []) []) h
+  pub no_cut_at : (n : NameValue) → is_below z.origin n ≡ false → find (has_servers z) (way z n) ≡ None
+  no_cut_at n h = ap (find (has_servers z)) (no_ends z n.absolute n.labels h)
+
+  pub one_more : (absolute : Bool) (x : List ℕ) (labels : List (List ℕ)) → cut_on absolute (x ∷ labels)
+      ≡ option_or (cut_on absolute labels) (find (has_servers z) (if_below z (name_with absolute (x ∷ labels))))
+  one_more absolute x labels =
+      find-append (has_servers z) (ends_below z absolute labels) (if_below z (name_with absolute (x ∷ labels)))
+
+  pub own_cut : (absolute : Bool) (labels : List (List ℕ)) → is_below z.origin (name_with absolute labels) ≡ true
+      → cut_on absolute labels ≡ option_or (cut_on absolute (drop 1 labels))
+      (cond (has_servers z (name_with absolute labels)) (Some (name_with absolute labels)) None)
+  own_cut absolute [] h = let s : Starts z.origin absolute [] = starts z.origin absolute [] h in cc
+  own_cut absolute (x ∷ labels) h = one_more absolute x labels
+      ∙ ap (λ b. option_or (cut_on absolute labels) (find (has_servers z)
+      (cond b (name_with absolute (x ∷ labels) ∷ []) []))) h
 
 pub or_none : {X : Type 0} (o : Option X) → option_or o None ≡ o
 or_none None = refl
@@ -150,14 +162,8 @@ module _ (origin : NameValue) (m : BTreeMap RrKey SetValue) where
     abbrev z : Zone
     z = zone_of_map origin class m
 
-    abbrev cut_on : NameValue → Option NameValue
-    cut_on n = find (has_servers z) (way z n)
-
-    own_cut : (end : NameValue) → is_below origin end ≡ true
-        → cut_on end ≡ option_or (cut_on (parent end)) (cond (has_servers z end) (Some end) None)
-    own_cut end h =
-        ap (find (has_servers z)) (one_more z end.absolute end.labels h)
-        ∙ find-append (has_servers z) (way z (parent end)) (end ∷ [])
+    abbrev cut_above : NameValue → Option NameValue
+    cut_above n = find (has_servers z) (way z n)
 
     own_set : (end : NameValue) (o : Option SetValue) → tree.get key_cmp m (key_of end types.NS) ≡ o
         → IsCutSet m (cond (has_servers z end) (Some end) None) o
@@ -168,23 +174,23 @@ module _ (origin : NameValue) (m : BTreeMap RrKey SetValue) where
         (sym (set_at origin class m (key_of end types.NS) ∙ ap is_some g)) (s, refl, g)
 
     next : (n end : NameValue) (o : Option SetValue) → is_below origin end ≡ true → (c : Option NameValue)
-        → IsCutSet m c o → cut_on n ≡ option_or (cut_on end) c
+        → IsCutSet m c o → cut_above n ≡ option_or (cut_above end) c
         → (g : Option SetValue) → tree.get key_cmp m (key_of end types.NS) ≡ g
-        → (d : Option NameValue) × IsCutSet m d (option_or g o) × (cut_on n ≡ option_or (cut_on (parent end)) d)
+        → (d : Option NameValue) × IsCutSet m d (option_or g o) × (cut_above n ≡ option_or (cut_above (parent end)) d)
     next n end o h c held e g there =
         let own = cond (has_servers z end) (Some end) None in (
           option_or own c,
           cuts_or m own c g o (own_set end g there) held,
-          e ∙ ap (λ x. option_or x c) (own_cut end h) ∙ or_or (cut_on (parent end)) own c,
+          e ∙ ap (λ x. option_or x c) (own_cut z end.absolute end.labels h) ∙ or_or (cut_above (parent end)) own c,
         )
 
     -- the highest cut on the way above a name, or else its own
     pub own_after : (n : NameValue) (o g : Option SetValue) → is_below origin n ≡ true
-        → IsCutSet m (cut_on (parent n)) o → tree.get key_cmp m (key_of n types.NS) ≡ g
-        → IsCutSet m (cut_on n) (option_or o g)
+        → IsCutSet m (cut_above (parent n)) o → tree.get key_cmp m (key_of n types.NS) ≡ g
+        → IsCutSet m (cut_above n) (option_or o g)
     own_after n o g h above there =
-        subst (λ c. IsCutSet m c (option_or o g)) (sym (own_cut n h))
-        (cuts_or m (cut_on (parent n)) (cond (has_servers z n) (Some n) None) o g above (own_set n g there))
+        subst (λ c. IsCutSet m c (option_or o g)) (sym (own_cut z n.absolute n.labels h))
+        (cuts_or m (cut_above (parent n)) (cond (has_servers z n) (Some n) None) o g above (own_set n g there))
 
   pub way_goes_on : (n end : NameValue) (o g : Option SetValue) → is_below origin end ≡ true
       → tree.get key_cmp m (key_of end types.NS) ≡ g → IsOnWay n end o
@@ -199,8 +205,7 @@ module _ (origin : NameValue) (m : BTreeMap RrKey SetValue) where
   way_ends n end o h on class =
       let so_far = on class in
       subst (λ c. IsCutSet m c o)
-      (sym (so_far.2 ∙ ap (λ ns. option_or (find (has_servers (zone_of_map origin class m)) ns) so_far.0) (no_way
-      (zone_of_map origin class m) end h))) so_far.1
+      (sym (so_far.2 ∙ ap (λ c. option_or c so_far.0) (no_cut_at (zone_of_map origin class m) end h))) so_far.1
 
 pub copied_or : {X : Type 0} (a b : Option (Bor X))
     → option_copied (option_or a b) ≡ option_or (option_copied a) (option_copied b)

@@ -17,8 +17,7 @@ use Rattle.rr.specs.Record.{type_of_record}
 use Rattle.rr.specs.declared.record.Record.{Record}
 use Rattle.std.specs.List.{filter_map, fold, list_any}
 use Rattle.std.specs.Prelude.{Bool, List, None, Option, Some, [], drop, false, if◌then◌else◌, length, map, min, not}
-use Rattle.std.specs.Prelude.{suc}
-use Rattle.std.specs.Prelude.{true, zero, ℕ, ◌&&◌, ◌++◌, ◌-◌, ◌∷◌}
+use Rattle.std.specs.Prelude.{suc, true, zero, ℕ, ◌&&◌, ◌++◌, ◌-◌, ◌∷◌}
 
 -- what is answered: the code, AA and the three sections
 pub record AnswerValue : Type 0 where

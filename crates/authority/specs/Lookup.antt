@@ -116,6 +116,14 @@ owner_lowered r = record r { name = lowered r.name }
 abbrev pub records_of : DNSClass → NameValue → List Datum → List (Record RData)
 records_of class owner ds = map (record_of class owner (least_ttl (shown ds))) (shown ds)
 
+-- the sets of an owner
+abbrev pub sets_of : Zone → NameValue → List (RrKey × List Datum)
+sets_of z s = filter (λ (e : RrKey × List Datum). is_owned s e.0) (fin.entries z.sets)
+
+-- the records of sets
+abbrev pub records_of_sets : DNSClass → NameValue → List (RrKey × List Datum) → List (Record RData)
+records_of_sets class owner es = flat_map (λ (e : RrKey × List Datum). records_of class owner e.1) es
+
 -- the records under a key, whose owner is the name as it was asked
 abbrev pub records : Zone → NameValue → RrKey → List (Record RData)
 records z owner k = records_of z.class owner (at z k)
@@ -149,10 +157,7 @@ alias_at z t n s = if is_cname t || is_any t then None
 
 -- the records of the type at s, for ANY those of each of its sets (RFC 1035, 3.2.3)
 abbrev pub asked : Zone → RecordType → NameValue → NameValue → List (Record RData)
-asked z t n s = if is_any t
-    then flat_map (λ (e : RrKey × List Datum). records_of z.class n e.1)
-    (filter (λ (e : RrKey × List Datum). is_owned s e.0) (fin.entries z.sets))
-    else records z n (key_of s t)
+asked z t n s = if is_any t then records_of_sets z.class n (sets_of z s) else records z n (key_of s t)
 
 -- what a zone has for a name and a type: the name lies outside the zone; it has nothing; a cut is above it or at it; an
 -- alias, and where it leads; records, none where there are none of the type

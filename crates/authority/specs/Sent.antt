@@ -15,8 +15,7 @@ use Rattle.op.specs.declared.header.Header.{Header}
 use Rattle.op.specs.declared.response_code.ResponseCode.TheVariants.{FormErr}
 use Rattle.op_use.specs.Zone.{Zone}
 use Rattle.std.specs.Prelude.{Bool, Err, List, None, Ok, Option, Result, Some, [], if◌then◌else◌, max, min, slice_index}
-use Rattle.std.specs.Prelude.{ℕ}
-use Rattle.std.specs.Prelude.{◌&&◌}
+use Rattle.std.specs.Prelude.{ℕ, ◌&&◌}
 
 -- the reply to bytes by their header: FormErr to that of a query (RFC 1035, 4.1.1; RFC 6891, 7)
 abbrev pub malformed_by : Result (Header × ℕ) DecodeError → Option MessageValue

@@ -6,13 +6,8 @@ use Rattle.base_data.specs.declared.rdata.RData.{RData}
 use Rattle.op_use.specs.Zone.{Datum, Zone, is_owned}
 use Rattle.rr.specs.declared.record.Record.{Record}
 use Rattle.std.specs.FinMap as fin
-use Rattle.std.specs.Prelude.{List, Some, true, ◌++◌, ◌∷◌, ◌≡◌}
-
--- a value stands in a list
-pub record StandsIn {X : Type 0} (xs : List X) (x : X) : Type 0 where
-  pub before : List X
-  pub after : List X
-  pub whole : xs ≡ before ++ x ∷ after
+use Rattle.std.specs.List.{Contains}
+use Rattle.std.specs.Prelude.{List, Some, true, ◌≡◌}
 
 -- The data of a record stands in a set of the zone: of its owner, where that exists, and else of the asterisk below its
 -- closest encloser.
@@ -20,8 +15,8 @@ pub record StandsInZone (z : Zone) (r : Record RData) : Type 0 where
   pub from : NameValue
   pub is_source : source z r.name ≡ Some from
   pub set : RrKey × List Datum
-  pub stands : StandsIn (fin.entries z.sets) set
+  pub stands : Contains (fin.entries z.sets) set
   pub is_of_source : is_owned from set.0 ≡ true
   pub datum : Datum
-  pub is_there : StandsIn set.1 datum
+  pub is_there : Contains set.1 datum
   pub same : r.rdata ≡ datum.rdata

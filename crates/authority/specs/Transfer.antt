@@ -34,8 +34,7 @@ use Rattle.std.specs.BTreeMap.{BTreeMap, get}
 use Rattle.std.specs.FinMap as fin
 use Rattle.std.specs.List.{filter, flat_map}
 use Rattle.std.specs.Prelude.{Bool, List, None, Option, Some, [], drop, false, if◌then◌else◌, is_some, map, not, true}
-use Rattle.std.specs.Prelude.{ℕ}
-use Rattle.std.specs.Prelude.{slice_get, ◌&&◌, ◌+◌, ◌++◌, ◌-◌, ◌<◌, ◌||◌, ◌∷◌, ◌≡◌, ◌≢◌, ◌⊎◌}
+use Rattle.std.specs.Prelude.{ℕ, slice_get, ◌&&◌, ◌+◌, ◌++◌, ◌-◌, ◌<◌, ◌||◌, ◌∷◌, ◌≡◌, ◌≢◌, ◌⊎◌}
 use Rattle.std.specs.declared.ops.Bound.TheVariants.{Included, Unbounded}
 
 -- the records of a set from its record of a number on, but for those without data, each with the least TTL (RFC 2181,

@@ -7,9 +7,8 @@ ghost use Rattle.std.specs.Prelude.{IfOk, IsOkUnless, OnOk, ◌++◌, ◌≡◌}
 
 use crate::found::{Found, lookup};
 use crate::records::{add_answered, add_found};
-use crate::sets::key_of;
 use crate::zone_ref::ZoneRef;
-use base::{Name, ProtoError, RecordType};
+use base::{Name, ProtoError, RecordType, RrKey};
 use base_data::RData;
 use rr::Record;
 
@@ -56,7 +55,7 @@ fn add_addresses(
     if !is_referral {
         return Ok(());
     }
-    let key = key_of(zone.alloc, host, record_type)?;
+    let key = RrKey::of(host, record_type)?;
     match zone.sets.get(&key) {
         Some(set) => Ok(add_answered(additionals, host, zone.class, set)?),
         None => Ok(()),

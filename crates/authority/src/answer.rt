@@ -12,7 +12,6 @@ ghost use Rattle.std.specs.Prelude.{IfOk, IsOkUnless, List, [], length, ◌++◌
 use crate::additionals::additionals;
 use crate::found::{Found, lookup};
 use crate::records::{add_all, add_answered, alias_record, end_like, negative_records};
-use crate::sets::key_of;
 use crate::zone_ref::ZoneRef;
 use base::{DNSClass, Name, ProtoError, RecordType, RrKey};
 use op::ResponseCode;
@@ -142,7 +141,7 @@ fn soa_over(zone: &ZoneRef<'_>, name: &Name) -> Result<Vec<Record>, ProtoError>
     ensures value { IfOk result (λ v. v.items ≡ the_negative (zone_of zone.now) name.now) }
     ensures only { IsOkUnless result ProtoError.Memory }
 {
-    let key = key_of(zone.alloc, zone.origin, RecordType::SOA)?;
+    let key = RrKey::of(zone.origin, RecordType::SOA)?;
     let Some(set) = zone.sets.get(&key) else {
         return Ok(Vec::new(zone.alloc));
     };

@@ -14,7 +14,7 @@ ghost use Rattle.std.specs.declared.ops.Bound.TheVariants.{Included, Unbounded};
 
 use crate::records::{least_ttl, record_of};
 use crate::room::room_after;
-use crate::sets::{is_within, key_of};
+use crate::sets::is_within;
 use crate::transferring::TransferPlace;
 use crate::zone_ref::ZoneRef;
 use base::{DNSClass, Name, ProtoError, RecordType, RrKey};
@@ -159,7 +159,7 @@ impl Answers {
         if !self.add(soa.clone()?)? {
             return Ok(TransferPlace::Start);
         }
-        let least = key_of(zone.alloc, zone.origin, RecordType::ZERO)?;
+        let least = RrKey::of(zone.origin, RecordType::ZERO)?;
         Ok(self.add_from(zone, soa, &least, 0)?)
     }
 

@@ -71,8 +71,8 @@ pub fn lookup<'z>(
     if !is_within(origin, name) {
         return Ok(Found::Outside);
     }
-    let own = at_name(alloc, sets, name, record_type)?;
-    if let Some(servers) = cut_over(alloc, sets, origin, name, record_type, own.servers)? {
+    let own = at_name(sets, name, record_type)?;
+    if let Some(servers) = cut_over(sets, origin, name, record_type, own.servers)? {
         return Ok(Found::Cut(servers));
     }
     if own.exists {
@@ -101,8 +101,8 @@ fn at_wildcard<'z>(
     if *name == *origin {
         return Ok(Found::NoName);
     }
-    let wildcard = wildcard_over(alloc, sets, origin, name)?;
-    let there = at_name(alloc, sets, &wildcard, record_type)?;
+    let wildcard = wildcard_over(sets, origin, name)?;
+    let there = at_name(sets, &wildcard, record_type)?;
     if there.exists {
         return found_at(alloc, sets, &wildcard, record_type, there);
     }

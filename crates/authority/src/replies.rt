@@ -15,7 +15,7 @@ ghost use Rattle.std.specs.Option.{option_copied};
 ghost use Rattle.std.specs.Prelude.{IfOk, IsOkUnless, option_map, ◌≡◌};
 
 use crate::answer::{Answer, answer_from};
-use crate::sets::{is_within, key_of};
+use crate::sets::is_within;
 use crate::zone_ref::ZoneRef;
 use base::{DNSClass, Name, ProtoError, RecordType, RrKey};
 use op::{Edns, Message, MessageType, Metadata, OpCode, Query, ResponseCode};
@@ -109,7 +109,7 @@ fn has_soa(zone: &ZoneRef<'_>) -> Result<bool, ProtoError>
         ≡ has_set (zone_of zone.now) (the_key zone.now.origin.now RecordType.SOA)) }
     ensures only { IsOkUnless result ProtoError.Memory }
 {
-    let key = key_of(zone.alloc, zone.origin, RecordType::SOA)?;
+    let key = RrKey::of(zone.origin, RecordType::SOA)?;
     Ok(zone.sets.contains_key(&key))
 }
 

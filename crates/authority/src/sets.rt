@@ -18,22 +18,10 @@ ghost use Rattle.std.specs.Map.{values_of};
 ghost use Rattle.std.specs.Option.{option_copied, option_or};
 ghost use Rattle.std.specs.Prelude.{IfOk, IsOkUnless, OnOk, map, true, ◌≡◌};
 
-use base::{LowerName, Name, ProtoError, RecordType, RrKey};
+use base::{Name, ProtoError, RecordType, RrKey};
 use rr::RecordSet;
 use std::alloc::Global;
 use std::collections::BTreeMap;
-
-/// The key of an owner and a type.
-pub(crate) fn key_of(
-    alloc: Global,
-    owner: &Name,
-    record_type: RecordType,
-) -> Result<RrKey, ProtoError>
-    ensures value { IfOk result (λ k. k ≡ the_key owner.now record_type) }
-    ensures only { IsOkUnless result ProtoError.Memory }
-{
-    Ok(RrKey::new(LowerName::new(alloc, owner)?, record_type))
-}
 
 /// Whether `name` is `other`, or lies below it.
 pub(crate) fn is_within(other: &Name, name: &Name) -> bool
@@ -65,7 +53,6 @@ pub(crate) struct AtName<'z> {
 /// What stands at a name, in one walk: the first key from its least one on tells whether something is there, and the
 /// keys of its own sets come first.
 pub(crate) fn at_name<'z>(
-    alloc: Global,
     sets: &'z BTreeMap<RrKey, RecordSet>,
     name: &Name,
     record_type: RecordType,
@@ -73,7 +60,7 @@ pub(crate) fn at_name<'z>(
     ensures value { IfOk result (λ own. IsAtName sets.now name.now record_type own) }
     ensures only { IsOkUnless result ProtoError.Memory }
 {
-    let least = key_of(alloc, name, RecordType::ZERO)?;
+    let least = RrKey::of(name, RecordType::ZERO)?;
     let mut own = AtName {
         exists: false,
         servers: None,
@@ -112,7 +99,6 @@ fn own_set<'z>(
 
 /// The name servers at the highest cut on the way from the origin to a name (RFC 1034, 4.2.1; 4.3.2, 3b).
 fn highest_cut<'z>(
-    alloc: Global,
     sets: &'z BTreeMap<RrKey, RecordSet>,
     origin: &Name,
     name: Name,
@@ -126,7 +112,7 @@ fn highest_cut<'z>(
     let mut highest = None;
     let mut end = name;
     while is_below(origin, &end) {
-        let key = key_of(alloc, &end, RecordType::NS)?;
+        let key = RrKey::of(&end, RecordType::NS)?;
         highest = sets.get(&key).or(highest);
         end = end.base_name()?;
     }
@@ -136,7 +122,6 @@ fn highest_cut<'z>(
 /// The name servers at the cut that a question is referred to, where these are the name's own. A DS set stands above its
 /// own cut (RFC 4035, 3.1.4.1).
 pub(crate) fn cut_over<'z>(
-    alloc: Global,
     sets: &'z BTreeMap<RrKey, RecordSet>,
     origin: &Name,
     name: &Name,
@@ -154,7 +139,7 @@ pub(crate) fn cut_over<'z>(
         return Ok(None);
     }
     let above = name.base_name()?;
-    let highest = highest_cut(alloc, sets, origin, above)?;
+    let highest = highest_cut(sets, origin, above)?;
     if record_type == RecordType::DS {
         return Ok(highest);
     }
@@ -163,7 +148,6 @@ pub(crate) fn cut_over<'z>(
 
 /// Whether a name exists, or is the origin, which does in any case.
 fn encloses(
-    alloc: Global,
     sets: &BTreeMap<RrKey, RecordSet>,
     origin: &Name,
     name: &Name,
@@ -175,12 +159,11 @@ fn encloses(
     if *name == *origin {
         return Ok(true);
     }
-    Ok(at_name(alloc, sets, name, RecordType::ZERO)?.exists)
+    Ok(at_name(sets, name, RecordType::ZERO)?.exists)
 }
 
 /// The asterisk below the closest encloser of a name at which nothing stands (RFC 4592, 3.3.1).
 pub(crate) fn wildcard_over(
-    alloc: Global,
     sets: &BTreeMap<RrKey, RecordSet>,
     origin: &Name,
     name: &Name,
@@ -194,7 +177,7 @@ pub(crate) fn wildcard_over(
     let mut closer = name.clone()?;
     loop {
         let above = closer.base_name()?;
-        if encloses(alloc, sets, origin, &above)? {
+        if encloses(sets, origin, &above)? {
             return closer.into_wildcard();
         }
         closer = above;
@@ -213,7 +196,7 @@ pub(crate) fn sets_of<'z>(
     ensures ordered { OnOk result (IsStrictlySortedBy key_cmp (keys sets.now)) }
     ensures only { IsOkUnless result ProtoError.Memory }
 {
-    let least = key_of(alloc, owner, RecordType::ZERO)?;
+    let least = RrKey::of(owner, RecordType::ZERO)?;
     let mut found = Vec::new(alloc);
     for (key, set) in sets.range(&least..) {
         if least.name != key.name {

@@ -11,7 +11,6 @@ use crate::filling::Answers;
 use crate::records::add_answered;
 use crate::replies::{framed, header_refusal, only_code};
 use crate::room::room_beside;
-use crate::sets::key_of;
 use crate::zone_ref::ZoneRef;
 use base::{DNSClass, Name, ProtoError, RecordType, RrKey};
 use op::{Message, MessageType, Query, ResponseCode};
@@ -136,7 +135,7 @@ fn soa_of(zone: &ZoneRef<'_>) -> Result<Option<Record>, ProtoError>
     ensures value { IfOk result (λ o. o ≡ the_soa zone.now.origin.now zone.now.class zone.now.sets.now) }
     ensures only { IsOkUnless result ProtoError.Memory }
 {
-    let key = key_of(zone.alloc, zone.origin, RecordType::SOA)?;
+    let key = RrKey::of(zone.origin, RecordType::SOA)?;
     let Some(set) = zone.sets.get(&key) else {
         return Ok(None);
     };

@@ -3,12 +3,14 @@
 ghost use Rattle.authority.specs.ZoneRef.{AreUnderKeys};
 
 mod cuts;
+mod long_names;
 mod names;
 
-use crate::zone::zone;
+use crate::zone::{long_zone, zone};
 use authority::{Answer, answer_question};
 use base::{DNSClass, Name, RecordType, RrKey};
 use cuts::{CUTS, WILDCARDS};
+use long_names::LONG_NAMES;
 use names::{ALIASES, NAMES};
 use op::ResponseCode;
 use rr::{Record, RecordSet};
@@ -77,15 +79,27 @@ fn is_answered(
     Ok(is_row(alloc, &answer, row)?)
 }
 
-/// The first row that isn't answered so, or the number of rows.
-fn first_wrong(alloc: Global, rows: &[Row]) -> Result<usize, Fail> {
-    let (origin, sets) = zone(alloc)?;
+/// The first row that isn't answered so by the sets, or the number of rows.
+fn first_wrong_of(
+    alloc: Global,
+    origin: &Name,
+    sets: &BTreeMap<RrKey, RecordSet>,
+    rows: &[Row],
+) -> Result<usize, Fail>
+    requires { AreUnderKeys sets.now }
+{
     for (i, row) in rows.iter().enumerate() {
-        if !is_answered(alloc, &origin, &sets, row)? {
+        if !is_answered(alloc, origin, sets, row)? {
             return Ok(i);
         }
     }
     Ok(rows.len())
+}
+
+/// The same by the zone.
+fn first_wrong(alloc: Global, rows: &[Row]) -> Result<usize, Fail> {
+    let (origin, sets) = zone(alloc)?;
+    first_wrong_of(alloc, &origin, &sets, rows)
 }
 
 #[test]
@@ -113,5 +127,13 @@ fn wildcards_are_answered(rt: HostRuntime) -> Result<(), Fail> {
 fn cuts_are_referred(rt: HostRuntime) -> Result<(), Fail> {
     let wrong = first_wrong(rt.alloc(), CUTS)?;
     assert_eq!(rt; wrong, CUTS.len());
+    Ok(())
+}
+
+#[test]
+fn long_names_are_answered(rt: HostRuntime) -> Result<(), Fail> {
+    let (origin, sets) = long_zone(rt.alloc())?;
+    let wrong = first_wrong_of(rt.alloc(), &origin, &sets, LONG_NAMES)?;
+    assert_eq!(rt; wrong, LONG_NAMES.len());
     Ok(())
 }

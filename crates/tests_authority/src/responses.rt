@@ -2,7 +2,7 @@
 
 ghost use Rattle.authority.specs.ZoneRef.{AreUnderKeys};
 
-use crate::zone::{wide_zone, zone};
+use crate::zone::{long_zone, wide_zone, zone};
 use authority::{Carrier, respond};
 use base::{DNSClass, Name, RrKey};
 use op::Message;
@@ -143,6 +143,39 @@ const WIDE: &[Row] = &[
     ),
 ];
 
+/// Questions for names that take memory of their own: an address, all of a name, an alias of an alias, a service at a
+/// wildcard, a name below a cut, none, and no data.
+const LONG: &[Row] = &[
+    (
+        b"\x12\x34\x01\x00\x00\x01\x00\x00\x00\x00\x00\x00\x03www\x1Da-name-with-memory-of-its-own\x07example\x00\x00\x01\x00\x01",
+        "0 true false 1 2 0 0 false false",
+    ),
+    (
+        b"\x12\x34\x01\x00\x00\x01\x00\x00\x00\x00\x00\x00\x03www\x1Da-name-with-memory-of-its-own\x07example\x00\x00\xFF\x00\x01",
+        "0 true false 1 3 0 0 false false",
+    ),
+    (
+        b"\x12\x34\x01\x00\x00\x01\x00\x00\x00\x00\x00\x00\x05alias\x1Da-name-with-memory-of-its-own\x07example\x00\x00\x01\x00\x01",
+        "0 true false 1 4 0 0 false false",
+    ),
+    (
+        b"\x12\x34\x01\x00\x00\x01\x00\x00\x00\x00\x00\x00\x01x\x04wild\x1Da-name-with-memory-of-its-own\x07example\x00\x00\x21\x00\x01",
+        "0 true false 1 1 0 2 false false",
+    ),
+    (
+        b"\x12\x34\x01\x00\x00\x01\x00\x00\x00\x00\x00\x00\x03www\x05child\x1Da-name-with-memory-of-its-own\x07example\x00\x00\x01\x00\x01",
+        "0 false false 1 0 1 2 false false",
+    ),
+    (
+        b"\x12\x34\x01\x00\x00\x01\x00\x00\x00\x00\x00\x00\x02no\x1Da-name-with-memory-of-its-own\x07example\x00\x00\x01\x00\x01",
+        "3 true false 1 0 1 0 false false",
+    ),
+    (
+        b"\x12\x34\x01\x00\x00\x01\x00\x00\x00\x00\x00\x00\x03www\x1Da-name-with-memory-of-its-own\x07example\x00\x00\x0F\x00\x01",
+        "0 true false 1 0 1 0 false false",
+    ),
+];
+
 /// What a reply says, as a row has it.
 fn shown(alloc: Global, reply: &Message) -> Result<String, Fail> {
     let do_bit = match &reply.edns {
@@ -229,5 +262,13 @@ fn what_has_no_room_is_left_out(rt: HostRuntime) -> Result<(), Fail> {
     let (origin, sets) = wide_zone(rt.alloc())?;
     let wrong = first_wrong(rt.alloc(), &origin, &sets, WIDE)?;
     assert_eq!(rt; wrong, WIDE.len());
+    Ok(())
+}
+
+#[test]
+fn questions_for_long_names_are_answered(rt: HostRuntime) -> Result<(), Fail> {
+    let (origin, sets) = long_zone(rt.alloc())?;
+    let wrong = first_wrong(rt.alloc(), &origin, &sets, LONG)?;
+    assert_eq!(rt; wrong, LONG.len());
     Ok(())
 }

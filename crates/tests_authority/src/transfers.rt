@@ -1,6 +1,6 @@
 //! Which messages are sent for a zone transfer (RFC 5936, 2.2).
 
-use crate::zone::{parsed, zone};
+use crate::zone::{LONG_ORIGIN, parsed, zone};
 use authority::{TransferPlace, transfer};
 use base::{DNSClass, Name, RecordType, RrKey};
 use base_data::RData;
@@ -59,6 +59,10 @@ const REFUSED: &[Row] = &[
 const QUERY: &[u8] =
     b"\x12\x34\x01\x00\x00\x01\x00\x00\x00\x00\x00\x01\x07EXAMPLE\x00\x00\xFC\x00\x01\x00\x00\x29\x10\x00\x00\x00\x80\x00\x00\x00";
 
+/// The same for a zone whose names take memory of their own.
+const LONG_QUERY: &[u8] =
+    b"\x12\x34\x01\x00\x00\x01\x00\x00\x00\x00\x00\x01\x1DA-NAME-WITH-MEMORY-OF-ITS-OWN\x07EXAMPLE\x00\x00\xFC\x00\x01\x00\x00\x29\x10\x00\x00\x00\x80\x00\x00\x00";
+
 /// What was transferred.
 #[derive(Drop)]
 struct Outcome {
@@ -81,14 +85,15 @@ fn is_right(message: &Message, is_first: bool) -> Result<bool, Fail> {
     Ok(is_answer && has_parts && is_whole && read.authorities.is_empty())
 }
 
-/// All messages of a transfer, up to so many.
+/// All messages of a transfer that is asked for so, up to so many.
 fn transferred(
     alloc: Global,
     origin: &Name,
     sets: &BTreeMap<RrKey, RecordSet>,
+    query: &[u8],
     most: usize,
 ) -> Result<Outcome, Fail> {
-    let query = Message::from_vec(alloc, QUERY)?;
+    let query = Message::from_vec(alloc, query)?;
     let mut all = Outcome {
         messages: 0,
         is_right: true,
@@ -144,7 +149,7 @@ fn is_whole(all: &Outcome, sets: &BTreeMap<RrKey, RecordSet>) -> bool {
 #[test]
 fn a_small_zone_is_one_message(rt: HostRuntime) -> Result<(), Fail> {
     let (origin, sets) = zone(rt.alloc())?;
-    let all = transferred(rt.alloc(), &origin, &sets, 3)?;
+    let all = transferred(rt.alloc(), &origin, &sets, QUERY, 3)?;
     assert_eq!(rt; all.messages, 1);
     assert!(rt; all.is_right);
     assert!(rt; is_soa(all.records.first()));
@@ -152,9 +157,9 @@ fn a_small_zone_is_one_message(rt: HostRuntime) -> Result<(), Fail> {
     Ok(())
 }
 
-/// The text of a zone: a set of so many addresses, and as many names.
-fn wide_text(alloc: Global, count: u32) -> Result<String, Fail> {
-    let mut text = String::from_str(alloc, "$ORIGIN example.\n$TTL 3600\n")?;
+/// The text of a zone of an origin: a set of so many addresses, and as many names.
+fn wide_text(alloc: Global, origin: &str, count: u32) -> Result<String, Fail> {
+    let mut text = format!(in alloc; "$ORIGIN {origin}\n$TTL 3600\n")?;
     text.push_str("@ SOA ns1 admin 7 7200 3600 1209600 300\n")?;
     for number in 0..count {
         let high = number / 256 % 256;
@@ -169,10 +174,35 @@ fn wide_text(alloc: Global, count: u32) -> Result<String, Fail> {
 
 #[test]
 fn a_large_set_goes_over_messages(rt: HostRuntime) -> Result<(), Fail> {
-    let text = wide_text(rt.alloc(), 4000)?;
+    let text = wide_text(rt.alloc(), "example.", 4000)?;
     let (origin, sets) = parsed(rt.alloc(), &text)?;
-    let all = transferred(rt.alloc(), &origin, &sets, 20)?;
+    let all = transferred(rt.alloc(), &origin, &sets, QUERY, 20)?;
     assert_eq!(rt; all.messages, 4);
+    assert!(rt; all.is_right);
+    assert!(rt; is_whole(&all, &sets));
+    Ok(())
+}
+
+/// 145,604 bytes of records, of which three messages hold 65,535 each: the second goes on at a name, the third within
+/// the set.
+#[test]
+fn long_names_go_over_messages(rt: HostRuntime) -> Result<(), Fail> {
+    let text = wide_text(rt.alloc(), LONG_ORIGIN, 1200)?;
+    let (origin, sets) = parsed(rt.alloc(), &text)?;
+    let all = transferred(rt.alloc(), &origin, &sets, LONG_QUERY, 20)?;
+    assert_eq!(rt; all.messages, 3);
+    assert!(rt; all.is_right);
+    assert!(rt; is_whole(&all, &sets));
+    Ok(())
+}
+
+/// 65,387 bytes of records, which leave no room for the 157 of the last SOA.
+#[test]
+fn the_last_soa_goes_alone(rt: HostRuntime) -> Result<(), Fail> {
+    let text = wide_text(rt.alloc(), LONG_ORIGIN, 540)?;
+    let (origin, sets) = parsed(rt.alloc(), &text)?;
+    let all = transferred(rt.alloc(), &origin, &sets, LONG_QUERY, 3)?;
+    assert_eq!(rt; all.messages, 2);
     assert!(rt; all.is_right);
     assert!(rt; is_whole(&all, &sets));
     Ok(())
@@ -219,7 +249,7 @@ fn a_zone_without_soa_is_not_transferred(rt: HostRuntime) -> Result<(), Fail> {
 #[test]
 fn records_without_data_are_not_transferred(rt: HostRuntime) -> Result<(), Fail> {
     let (origin, mut sets) = zone(rt.alloc())?;
-    let all = transferred(rt.alloc(), &origin, &sets, 3)?;
+    let all = transferred(rt.alloc(), &origin, &sets, QUERY, 3)?;
     for (key, set) in &mut sets {
         if key.record_type != RecordType::A {
             continue;
@@ -234,7 +264,7 @@ fn records_without_data_are_not_transferred(rt: HostRuntime) -> Result<(), Fail>
         };
         set.renew(empty)?;
     }
-    let after = transferred(rt.alloc(), &origin, &sets, 3)?;
+    let after = transferred(rt.alloc(), &origin, &sets, QUERY, 3)?;
     assert!(rt; after.is_right);
     assert_eq!(rt; after.records.len(), all.records.len());
     Ok(())

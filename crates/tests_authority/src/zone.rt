@@ -109,6 +109,36 @@ hhhhhhhhhhhhhhhhhhhhhhhhhhhhhhhhhhhhhhhhhhhhhhhhhhhhhhhhhhhhh-5 A 192.0.2.5
 hhhhhhhhhhhhhhhhhhhhhhhhhhhhhhhhhhhhhhhhhhhhhhhhhhhhhhhhhhhhh-5 AAAA 2001:db8::5
 ";
 
+/// An origin of 38 bytes: it and the names below it take memory of their own.
+pub(crate) const LONG_ORIGIN: &str = "a-name-with-memory-of-its-own.example.";
+
+/// What an answer meets, with such names alone.
+const LONG: &str = "$ORIGIN a-name-with-memory-of-its-own.example.
+$TTL 3600
+@ 7200 SOA ns1 admin 7 7200 3600 1209600 300
+@ NS ns1
+@ NS ns.child
+@ MX 10 mail
+ns1 A 192.0.2.1
+ns1 AAAA 2001:db8::1
+mail A 192.0.2.2
+mail AAAA 2001:db8::2
+www A 192.0.2.3
+www A 192.0.2.4
+www TXT \"www\"
+alias CNAME between
+between CNAME www
+gone CNAME x.nothing
+loop CNAME loop
+*.wild A 192.0.2.10
+*.wild SRV 0 0 5060 mail
+*.cwild CNAME www
+child NS ns.child
+ns.child A 192.0.2.20
+ns.child AAAA 2001:db8::20
+tochild CNAME www.child
+";
+
 /// The zone's origin and its sets.
 pub(crate) fn zone(alloc: Global) -> Result<(Name, BTreeMap<RrKey, RecordSet>), Fail>
     ensures { IfOk result (λ r. AreUnderKeys r.1) }
@@ -121,6 +151,13 @@ pub(crate) fn wide_zone(alloc: Global) -> Result<(Name, BTreeMap<RrKey, RecordSe
     ensures { IfOk result (λ r. AreUnderKeys r.1) }
 {
     parsed(alloc, WIDE)
+}
+
+/// The same of the zone of long names.
+pub(crate) fn long_zone(alloc: Global) -> Result<(Name, BTreeMap<RrKey, RecordSet>), Fail>
+    ensures { IfOk result (λ r. AreUnderKeys r.1) }
+{
+    parsed(alloc, LONG)
 }
 
 /// The origin and the sets of a zone's text.

@@ -26,7 +26,7 @@ returns-in-Some-clause-added c =
     ∙ glue_there (zone_of zone) t n zone.class zone.sets.now c.in_ok-found.found c.in-Cut.field-0 f c.in-Cut.is
     (c.in_ok-found.ensures.found zone.class)
     ∙ records_there zone.origin.now zone.class zone.sets.now n (key_of n t) c.in-Some.set.now
-    (ap (get key_cmp zone.sets.now) (sym c.in_ok-key.ensures.value) ∙ sym c.in-Some.ensures.value)))
+    (ap (get key_cmp zone.sets.now) (sym c.in_ok-key.ensures) ∙ sym c.in-Some.ensures.value)))
 
 pub returns-clause-added : goal.returns-clause-added
 returns-clause-added c =
@@ -40,5 +40,5 @@ returns-clause-added c =
     ∙ glue_there (zone_of zone) t n zone.class zone.sets.now c.in_ok-found.found c.in-Cut.field-0 f c.in-Cut.is
     (c.in_ok-found.ensures.found zone.class)
     ∙ no_records zone.origin.now zone.class zone.sets.now n (key_of n t)
-    (ap (get key_cmp zone.sets.now) (sym c.in_ok-key.ensures.value) ∙ sym c.in-None.ensures.value) in
+    (ap (get key_cmp zone.sets.now) (sym c.in_ok-key.ensures) ∙ sym c.in-None.ensures.value) in
     nothing_more c.args.additionals.now.items (addresses_of (zone_of zone) c.args.is_referral t n) none

@@ -1,6 +1,5 @@
 use Rattle.authority.proofs.AnswerLemmas.{answer_again, answer_cut, answer_data, answer_last, answer_no_data}
-use Rattle.authority.proofs.AnswerLemmas.{answer_no_name}
-use Rattle.authority.proofs.AnswerLemmas.{answer_on, answer_outside}
+use Rattle.authority.proofs.AnswerLemmas.{answer_no_name, answer_on, answer_outside}
 use Rattle.authority.proofs.answer.answer_from.Goals as goal
 use Rattle.authority.proofs.answer.answer_from.Goals.{then-room-eq0-via-else-room-eq0+then-owns}
 use Rattle.authority.proofs.answer.answer_from.Goals.{then-room-eq0-via-then-room-eq0}

@@ -14,7 +14,7 @@ returns-in_default-clause-value c =
     let origin = zone.origin.now in
     c.new.ensures.items ∙ sym (ap (map as_negative) (no_records origin zone.class zone.sets.now
     (end_like origin c.args.name.now) (key_of origin types.SOA) (ap (get key_cmp zone.sets.now)
-    (sym c.in_ok-key.ensures.value) ∙ sym c.in_default.ensures.value)))
+    (sym c.in_ok-key.ensures) ∙ sym c.in_default.ensures.value)))
 
 pub returns-clause-value : goal.returns-clause-value
 returns-clause-value c =
@@ -24,5 +24,5 @@ returns-clause-value c =
     c.in_ok-negative_records.ensures
     ∙ ap (λ (owner : NameValue). map as_negative (answered zone.class owner s)) c.in_ok-owner.ensures.value
     ∙ sym (ap (map as_negative) (records_there origin zone.class zone.sets.now (end_like origin c.args.name.now)
-    (key_of origin types.SOA) s (ap (get key_cmp zone.sets.now) (sym c.in_ok-key.ensures.value)
+    (key_of origin types.SOA) s (ap (get key_cmp zone.sets.now) (sym c.in_ok-key.ensures)
     ∙ sym c.in-Some.ensures.value)))

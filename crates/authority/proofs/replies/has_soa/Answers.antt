@@ -9,5 +9,5 @@ use Rattle.std.specs.BTreeMap.{get}
 pub returns-clause-value : goal.returns-clause-value
 returns-clause-value c =
     let zone = c.args.zone.now in
-    c.contains_key.ensures ∙ ap (λ (k : RrKey). is_some (get key_cmp zone.sets.now k)) c.in_ok-key.ensures.value
+    c.contains_key.ensures ∙ ap (λ (k : RrKey). is_some (get key_cmp zone.sets.now k)) c.in_ok-key.ensures
     ∙ sym (set_at zone.origin.now zone.class zone.sets.now (key_of zone.origin.now types.SOA))

@@ -14,7 +14,7 @@ use Rattle.std.specs.Prelude.{◌||◌}
 
 pub loop-key-init : goal.loop-key-init
 loop-key-init c = (
-  walk_begins c.args.sets.now c.args.name.now c.args.record_type _ c.in_ok-least.least c.in_ok-least.ensures.value
+  walk_begins c.args.sets.now c.args.name.now c.args.record_type _ c.in_ok-least.least c.in_ok-least.ensures
       c.range-key-items.ensures.ordered
       (c.into_iter-key-iterator.ensures.into_iter_gives ∙ c.range-key-items.ensures.between tt),
   tt,
@@ -24,7 +24,7 @@ loop-key-init c = (
 pub loop-key-preserved : goal.loop-key-preserved
 loop-key-preserved c =
     let own : is_owned c.args.name.now c.in-Some.key.now ≡ true
-    = ap (λ k. same_lower k.name c.in-Some.key.now.name) (sym c.in_ok-least.ensures.value)
+    = ap (λ k. same_lower k.name c.in-Some.key.now.name) (sym c.in_ok-least.ensures)
     ∙ not-false _ (sym c.ne.ensures ∙ c.if-ne.false) in (
       walk_next c.args.sets.now c.args.name.now c.loop-key.key-iterator c.next.new.self c.in-Some.key.now
           c.in-Some.set.now c.in-Some.ensures.steps own c.args.record_type c.loop-key.own (record {
@@ -44,7 +44,7 @@ returns-then-ne-clause-value c =
     let key = c.in-Some.key.now in
     let it = c.loop-key.key-iterator in
     let other : is_owned n key ≡ false
-    = ap (λ k. same_lower k.name key.name) (sym c.in_ok-least.ensures.value)
+    = ap (λ k. same_lower k.name key.name) (sym c.in_ok-least.ensures)
     ∙ not-true _ (sym c.ne.ensures ∙ c.if-ne.true) in
     let there : c.if-own.result ≡ (c.loop-key.own.exists || first_covered n it) = elim c.if-own.branch [
       | then-own w ↦ w.result-is ∙ w.if-own.true ∙ sym (ap (λ b. b || first_covered n it) w.if-own.true)

@@ -1,5 +1,5 @@
 use Rattle.authority.proofs.HighestCut.{none_dropped}
-use Rattle.authority.proofs.WayLemmas.{copied_or, cut_beside, ds_is, no_way, own_after}
+use Rattle.authority.proofs.WayLemmas.{copied_or, cut_beside, ds_is, no_cut_at, own_after}
 use Rattle.authority.proofs.sets.cut_over.Goals as goal
 use Rattle.authority.specs.Found.{IsCutSet}
 use Rattle.authority.specs.Lookup.{has_servers, is_ds, way}
@@ -14,8 +14,8 @@ use Rattle.std.specs.Prelude.{Bool, None, Option, cond}
 
 no_cut : (z : Zone) (n : NameValue) (b : Bool) → is_below z.origin n ≡ false
     → find (has_servers z) (way z (cond b (parent n) n)) ≡ None
-no_cut z n false h = ap (find (has_servers z)) (no_way z n h)
-no_cut z n true h = none_dropped z n.absolute n.labels (ap (find (has_servers z)) (no_way z n h))
+no_cut z n false h = no_cut_at z n h
+no_cut z n true h = none_dropped z n.absolute n.labels (no_cut_at z n h)
 
 pub returns-then-not-is_below-clause-value : goal.returns-then-not-is_below-clause-value
 returns-then-not-is_below-clause-value c = λ class.

@@ -7,7 +7,7 @@ use Rattle.std.proofs.lemmas.Bool.{not-false}
 pub loop-key-init : goal.loop-key-init
 loop-key-init c = (
   sets_begin c.args.owner.now c.new-found.result.items c.in_ok-least.least _ c.args.sets.now.entries
-      c.new-found.ensures.items c.in_ok-least.ensures.value
+      c.new-found.ensures.items c.in_ok-least.ensures
       c.range-key-items.ensures.ordered (c.into_iter-key-iterator.ensures.into_iter_gives
       ∙ c.range-key-items.ensures.between tt),
   tt,
@@ -19,7 +19,7 @@ loop-key-preserved c =
     let more : c.push.new.self.items ≡ c.loop-key.found.items ++ c.in-Some.set ∷ [] = search rules in (
       set_here c.args.owner.now c.loop-key.found.items c.push.new.self.items c.in-Some.set c.loop-key.key-iterator
           c.next.new.self c.in-Some.key.now _ more c.in-Some.ensures.steps
-          (ap (λ k. same_lower k.name c.in-Some.key.now.name) (sym c.in_ok-least.ensures.value)
+          (ap (λ k. same_lower k.name c.in-Some.key.now.name) (sym c.in_ok-least.ensures)
           ∙ not-false _ (sym c.ne.ensures ∙ c.if-ne.false)) c.loop-key.invariant.0,
       tt,
       tt,

@@ -14,7 +14,7 @@ use Rattle.std.specs.Prelude.{slice_get}
 pub returns-in_default-clause-value : goal.returns-in_default-clause-value
 returns-in_default-clause-value c =
     let zone = c.args.zone.now in
-    sym (ap (first_of zone.class) (ap (get key_cmp zone.sets.now) (sym c.in_ok-key.ensures.value)
+    sym (ap (first_of zone.class) (ap (get key_cmp zone.sets.now) (sym c.in_ok-key.ensures)
     ∙ sym c.in_default.ensures.value))
 
 pub returns-in-Some-first-clause-value : goal.returns-in-Some-first-clause-value
@@ -22,7 +22,7 @@ returns-in-Some-first-clause-value c =
     let zone = c.args.zone.now in
     let s = c.in-Some.set.now in
     let there : get key_cmp zone.sets.now (key_of zone.origin.now types.SOA) ≡ Some s
-    = ap (get key_cmp zone.sets.now) (sym c.in_ok-key.ensures.value) ∙ sym c.in-Some.ensures.value in
+    = ap (get key_cmp zone.sets.now) (sym c.in_ok-key.ensures) ∙ sym c.in-Some.ensures.value in
     let items : c.add_answered.new.records.items ≡ records_from zone.class 0 s
     = c.in_ok-add_answered.ensures
     ∙ ap (λ (xs : List (Record RData)). xs ++ answered zone.class c.name.result.now s) c.new-records.ensures.items
@@ -36,7 +36,7 @@ returns-clause-value c =
     let zone = c.args.zone.now in
     let s = c.in-Some.set.now in
     let there : get key_cmp zone.sets.now (key_of zone.origin.now types.SOA) ≡ Some s
-    = ap (get key_cmp zone.sets.now) (sym c.in_ok-key.ensures.value) ∙ sym c.in-Some.ensures.value in
+    = ap (get key_cmp zone.sets.now) (sym c.in_ok-key.ensures) ∙ sym c.in-Some.ensures.value in
     let items : c.add_answered.new.records.items ≡ records_from zone.class 0 s
     = c.in_ok-add_answered.ensures
     ∙ ap (λ (xs : List (Record RData)). xs ++ answered zone.class c.name.result.now s) c.new-records.ensures.items
