@@ -103,11 +103,3 @@ module _ {X : Type 0} where
     one_more new here beside = each_key (λ q. tree.get key_cmp new q ≡ cond (has_key q (ks ++ k ∷ [])) (F q) (G q)) k
         (here ∙ ap (λ b. cond b (F k) (G k)) (sym (last_here k ks)))
         (λ q e. beside q e ∙ so q ∙ ap (λ b. cond b (F q) (G q)) (sym (last_beside k q ks e)))
-
-    pub same_more : F k ≡ G k → (q : RrKey) → tree.get key_cmp old q ≡ cond (has_key q (ks ++ k ∷ [])) (F q) (G q)
-    same_more same = each_key (λ q. tree.get key_cmp old q ≡ cond (has_key q (ks ++ k ∷ [])) (F q) (G q)) k
-        (so k ∙ either (has_key k ks) ∙ ap (λ b. cond b (F k) (G k)) (sym (last_here k ks)))
-        (λ q e. so q ∙ ap (λ b. cond b (F q) (G q)) (sym (last_beside k q ks e))) where
-          either : (b : Bool) → cond b (F k) (G k) ≡ F k
-          either true = refl
-          either false = sym same
