@@ -70,15 +70,12 @@ module _ {X : Type 0} where
   key_in q (e ∷ es) = ap (λ b. b || has_key q (keys_of es)) ((eq_by_cmp_equiv key_cmp-total).symm e.0 q)
       ∙ found_at (eq_by_cmp key_cmp q e.0) e.1 (lookup (is_at (key_cmp q)) es) (has_key q (keys_of es)) (key_in q es)
 
-  pub key_is_in : (q : RrKey) (m : BTreeMap RrKey X) → has_key q (tree.keys m) ≡ is_some (tree.get key_cmp m q)
-  key_is_in q m = key_in q m.entries
-
   -- so is one of an owner's
   pub owned_key : (owner : NameValue) (q : RrKey) (m : BTreeMap RrKey X)
       → has_key q (filter (λ k. is_owned owner k) (tree.keys m)) ≡ (is_owned owner q && is_some (tree.get key_cmp m q))
   owned_key owner q m = any-filter_same (λ k. eq_by_cmp key_cmp k q) (λ k. is_owned owner k) (is_owned owner q)
       (λ k e. ap (λ x. is_owned owner x) (same_key k q e)) (tree.keys m)
-      ∙ ap (λ b. is_owned owner q && b) (key_is_in q m)
+      ∙ ap (λ b. is_owned owner q && b) (key_in q m.entries)
 
   pub none_in : (m : BTreeMap RrKey X) (q : RrKey) → m.entries ≡ [] → tree.get key_cmp m q ≡ None
   none_in m q none = ap (lookup (is_at (key_cmp q))) none

@@ -269,12 +269,6 @@ leaves_none z q c before e = subst (λ (x : Change). Leaves [] z q x) (sym e) (r
   kept = λ e. refl;
 })
 
-positive : (n : ℕ) → 0 < 1 + n
-positive n = omega arith
-
-some_first : {A : Type 0} (x : A) (xs : List A) → x ∷ xs ≡ [] → ⊥
-some_first x xs e = absurd cc
-
 -- Under a key, by what is left of the updates of its owner: they are still to be carried out, or the outcome has what
 -- they leave.
 abbrev pub IsGatheredAt : List (Record RData) → HeldZone → RrKey → List (Record RData) → Change → Type 0
@@ -309,8 +303,9 @@ module _ (rs : List (Record RData)) (z : HeldZone) where
     here q e = own_is n q e rest ∙ front.0
 
     itself : (q : RrKey) → is_owned n q ≡ true → own ≡ [] → ⊥
-    itself q e none = some_first first.now (own_updates q (each more))
-        (sym (ap (λ us. own_updates q (each us)) is ∙ cond-true _ _ _ e) ∙ here q e ∙ none)
+    itself q e none =
+        let some : first.now ∷ own_updates q (each more) ≡ [] =
+        sym (ap (λ us. own_updates q (each us)) is ∙ cond-true _ _ _ e) ∙ here q e ∙ none in absurd cc
 
     gathered_own : (q : RrKey) → is_owned n q ≡ true → (own ≡ own_updates q rs) × HasNothing o q
     gathered_own q e = by (h q) where
@@ -344,7 +339,7 @@ module _ (rs : List (Record RData)) (z : HeldZone) where
 
     pub some_here : 0 < k
     some_here = subst (λ us. 0 < prefix_len (of_run n) us) (sym is)
-        (subst (λ b. 0 < cond b (1 + prefix_len (of_run n) more) 0) (sym ((same_by-equiv folded).refl n)) (positive _))
+        (subst (λ b. 0 < cond b (1 + prefix_len (of_run n) more) 0) (sym ((same_by-equiv folded).refl n)) (omega arith))
 
   -- the updates of one owner, from a place on
   module _ (xs all : List (Bor (Record RData))) (done count : ℕ) (d : Bor (Record RData)) (o : Outcome)
