@@ -1,20 +1,19 @@
 -- Steps of changing the sets of a zone.
 use Rattle.base.specs.RrKey.{key_cmp}
-use Rattle.base.specs.names.Labels.{NameValue}
 use Rattle.base.specs.declared.dns_class.DNSClass.{DNSClass}
 use Rattle.base.specs.declared.rr_key.RrKey.{RrKey}
 use Rattle.base_data.specs.SameData.{same_data}
 use Rattle.base_data.specs.declared.rdata.RData.{RData}
 use Rattle.op_use.proofs.AfterSteps.{map_after, more_after}
 use Rattle.op_use.proofs.AppliedData.{Distinct, distinct_joined, distinct_without}
-use Rattle.op_use.proofs.KeySets.{Sets, each_key, one_more, owned_key, put_beside, put_here, same_more}
+use Rattle.op_use.proofs.KeySets.{Sets, each_key, put_beside, put_here}
 use Rattle.op_use.proofs.UpdateSteps.{Changes, moves, stays}
+use Rattle.op_use.proofs.ZoneSteps.{same_key}
 use Rattle.op_use.specs.Applying.{IsZoneMap, IsZoneSet, records_at, records_in}
 use Rattle.op_use.specs.CurrentSets.{renewed_set}
-use Rattle.op_use.specs.HeldZone.{HeldZone, zone_held}
+use Rattle.op_use.specs.HeldZone.{HeldZone}
 use Rattle.op_use.specs.NamedChanges.{set_key}
-use Rattle.op_use.specs.MapUpdates.{HasSets, HoldsAt, IsSetTo, IsUpdated, has_key}
-use Rattle.op_use.specs.Zone.{is_guarded, is_owned}
+use Rattle.op_use.specs.MapUpdates.{HasSets, HoldsAt, IsSetTo, IsUpdated}
 use Rattle.rr.proofs.WithoutSteps.{without_none}
 use Rattle.rr.specs.Record.{record_key}
 use Rattle.rr.specs.RecordSet.{SetValue}
@@ -22,12 +21,16 @@ use Rattle.rr.specs.SetChanges.{joined}
 use Rattle.rr.specs.SetUpdates.{has_data_of_one, last_ttl, with_records, without, without_data}
 use Rattle.rr.specs.declared.record.Record.{Record}
 use Rattle.std.proofs.Common.{ap, inl, inr, refl, subst, sym, ◌∙◌, ◌⊎◌}
+use Rattle.std.proofs.lemmas.Map.Entries.{lookup-filter-keys}
+use Rattle.std.proofs.lemmas.Map.Made.{filter_same_pairs}
 use Rattle.std.proofs.lemmas.Option.{none-some, same_Some}
 use Rattle.std.specs.BTreeMap as tree
-use Rattle.std.specs.BTreeMap.{BTreeMap}
-use Rattle.std.specs.List.{IsDistinct, filter, list_any}
+use Rattle.std.specs.BTreeMap.{BTreeMap, is_at}
+use Rattle.std.specs.List.{IsDistinct, list_any}
+use Rattle.std.specs.Map.Calls.{RetainsPairs}
+use Rattle.std.specs.Map.{lookup}
 use Rattle.std.specs.Ordering.{on}
-use Rattle.std.specs.Prelude.{Bool, IfSome, List, None, Option, Some, [], cond, false, is_some, not, true, ◌&&◌, ◌++◌}
+use Rattle.std.specs.Prelude.{Bool, IfSome, List, None, Option, Some, [], cond, false, true, ◌++◌}
 use Rattle.std.specs.Prelude.{◌∷◌, ◌≡◌, ◌≢◌}
 
 abbrev Map : Type 0
@@ -43,6 +46,23 @@ distinct_there class k m None h e = tt
 none_distinct : Distinct []
 unfolding IsDistinct
 none_distinct = tt
+
+-- the sets whose keys pass a test
+pub map_part : (class : DNSClass) (p : RrKey → Bool) (m n : Map)
+    → ((q : RrKey) → tree.get key_cmp n q ≡ cond (p q) (tree.get key_cmp m q) None)
+    → IsZoneMap class m → IsZoneMap class n
+map_part class p m n part old q s e = by (p q) (sym (part q) ∙ e) where
+  by : (b : Bool) → cond b (tree.get key_cmp m q) None ≡ Some s → IsZoneSet class q s
+  by true f = old q s f
+  by false f = absurd cc
+
+pub sets_retained : {F : Type 0} (T : F → RrKey → SetValue → Bool → SetValue → F → Type 0) (p : RrKey → Bool) (f : F)
+    (m n : Map) → ((k : RrKey) (v : SetValue) (b : Bool) (w : SetValue) (f' : F) → T f k v b w f'
+    → (b ≡ p k) × (w ≡ v) × (f' ≡ f)) → RetainsPairs T f m.entries n.entries
+    → (q : RrKey) → tree.get key_cmp n q ≡ cond (p q) (tree.get key_cmp m q) None
+sets_retained T p f m n calls h q =
+    ap (lookup (is_at (key_cmp q))) (filter_same_pairs T (λ e. p e.0) f calls m.entries n.entries h)
+    ∙ lookup-filter-keys (is_at (key_cmp q)) p (p q) (λ k e. ap p (sym (same_key q k e))) m.entries
 
 -- ---- one set of a map is another then
 
@@ -208,47 +228,3 @@ held_as k q f z old n own is h = subst (λ (j : RrKey). HoldsAt j (f (records_at
     (record z { sets = n })) own
     (subst (λ (y : HeldZone). HoldsAt k (f (records_at y.sets k)) y (record z { sets = n })) is
     (record { rest = refl; holds = h }))
-
--- the new zone is the old one without the sets of an owner under these keys, but for those that stay
-abbrev pub Clears : NameValue → List RrKey → HeldZone → HeldZone → Type 0
-Clears owner ks = HasSets (λ z sets. (q : RrKey) → tree.get key_cmp sets q ≡ cond (has_key q ks)
-    (cond (is_guarded (zone_held z) owner q.record_type) (tree.get key_cmp z.sets q) None) (tree.get key_cmp z.sets q))
-
-module _ (owner : NameValue) (k : RrKey) (ks : List RrKey) (old mid : HeldZone) (first : Clears owner ks old mid) where
-  abbrev left : RrKey → Option SetValue
-  left q = cond (is_guarded (zone_held old) owner q.record_type) (tree.get key_cmp old.sets q) None
-
-  pub clears_more : (new : HeldZone) → is_guarded (zone_held old) owner k.record_type ≡ false → HoldsAt k [] mid new
-      → Clears owner (ks ++ k ∷ []) old new
-  clears_more new free next = sets_then _ _ _ old mid new first next (λ f g.
-      one_more left (λ q. tree.get key_cmp old.sets q) k ks mid.sets f new.sets
-      (gone g (tree.get key_cmp new.sets k) refl
-      ∙ ap (λ b. cond b (tree.get key_cmp old.sets k) None) (sym free)) g.others) where
-        gone : IsSetTo old.class k [] mid.sets new.sets → (o : Option SetValue) → tree.get key_cmp new.sets k ≡ o
-            → tree.get key_cmp new.sets k ≡ None
-        gone g None e = e
-        gone g (Some s) e = absurd ((g.fits s e).filled (sym (ap records_in e) ∙ g.records))
-
-  pub clears_same : is_guarded (zone_held old) owner k.record_type ≡ true → Clears owner (ks ++ k ∷ []) old mid
-  clears_same guarded = record {
-    rest = first.rest;
-    holds = same_more left (λ q. tree.get key_cmp old.sets q) k ks mid.sets first.holds
-        (ap (λ b. cond b (tree.get key_cmp old.sets k) None) guarded);
-  }
-
-pub cleared : (owner : NameValue) (old new : HeldZone)
-    → Clears owner (filter (λ k. is_owned owner k) (tree.keys old.sets)) old new → (q : RrKey)
-    → tree.get key_cmp new.sets q
-    ≡ cond (is_owned owner q && not (is_guarded (zone_held old) owner q.record_type)) None
-    (tree.get key_cmp old.sets q)
-cleared owner old new h q = h.holds q
-    ∙ ap (λ b. cond b (cond (is_guarded (zone_held old) owner q.record_type) (tree.get key_cmp old.sets q) None)
-    (tree.get key_cmp old.sets q)) (owned_key owner q old.sets)
-    ∙ by (is_owned owner q) (is_guarded (zone_held old) owner q.record_type) (tree.get key_cmp old.sets q) where
-      by : (o g : Bool) (v : Option SetValue)
-          → cond (o && is_some v) (cond g v None) v ≡ cond (o && not g) None v
-      by true true (Some s) = refl
-      by true true None = refl
-      by true false (Some s) = refl
-      by true false None = refl
-      by false g v = refl

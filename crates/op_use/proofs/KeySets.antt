@@ -70,15 +70,12 @@ module _ {X : Type 0} where
   key_in q (e ∷ es) = ap (λ b. b || has_key q (keys_of es)) ((eq_by_cmp_equiv key_cmp-total).symm e.0 q)
       ∙ found_at (eq_by_cmp key_cmp q e.0) e.1 (lookup (is_at (key_cmp q)) es) (has_key q (keys_of es)) (key_in q es)
 
-  pub key_is_in : (q : RrKey) (m : BTreeMap RrKey X) → has_key q (tree.keys m) ≡ is_some (tree.get key_cmp m q)
-  key_is_in q m = key_in q m.entries
-
   -- so is one of an owner's
   pub owned_key : (owner : NameValue) (q : RrKey) (m : BTreeMap RrKey X)
       → has_key q (filter (λ k. is_owned owner k) (tree.keys m)) ≡ (is_owned owner q && is_some (tree.get key_cmp m q))
   owned_key owner q m = any-filter_same (λ k. eq_by_cmp key_cmp k q) (λ k. is_owned owner k) (is_owned owner q)
       (λ k e. ap (λ x. is_owned owner x) (same_key k q e)) (tree.keys m)
-      ∙ ap (λ b. is_owned owner q && b) (key_is_in q m)
+      ∙ ap (λ b. is_owned owner q && b) (key_in q m.entries)
 
   pub none_in : (m : BTreeMap RrKey X) (q : RrKey) → m.entries ≡ [] → tree.get key_cmp m q ≡ None
   none_in m q none = ap (lookup (is_at (key_cmp q))) none
@@ -103,11 +100,3 @@ module _ {X : Type 0} where
     one_more new here beside = each_key (λ q. tree.get key_cmp new q ≡ cond (has_key q (ks ++ k ∷ [])) (F q) (G q)) k
         (here ∙ ap (λ b. cond b (F k) (G k)) (sym (last_here k ks)))
         (λ q e. beside q e ∙ so q ∙ ap (λ b. cond b (F q) (G q)) (sym (last_beside k q ks e)))
-
-    pub same_more : F k ≡ G k → (q : RrKey) → tree.get key_cmp old q ≡ cond (has_key q (ks ++ k ∷ [])) (F q) (G q)
-    same_more same = each_key (λ q. tree.get key_cmp old q ≡ cond (has_key q (ks ++ k ∷ [])) (F q) (G q)) k
-        (so k ∙ either (has_key k ks) ∙ ap (λ b. cond b (F k) (G k)) (sym (last_here k ks)))
-        (λ q e. so q ∙ ap (λ b. cond b (F q) (G q)) (sym (last_beside k q ks e))) where
-          either : (b : Bool) → cond b (F k) (G k) ≡ F k
-          either true = refl
-          either false = sym same

@@ -7,6 +7,7 @@ use Rattle.base.specs.declared.record_type.RecordType.TheVariants as types
 use Rattle.base.specs.declared.dns_class.DNSClass.{DNSClass}
 use Rattle.base.specs.declared.rr_key.RrKey.{RrKey}
 use Rattle.base_data.specs.declared.rdata.RData.{RData}
+use Rattle.op_use.proofs.ChangingSteps.{map_part}
 use Rattle.op_use.proofs.KeySets.{owned_key}
 use Rattle.op_use.proofs.MapZones.{get_zone}
 use Rattle.op_use.proofs.ZoneSteps.{same_key}
@@ -15,7 +16,7 @@ use Rattle.op_use.proofs.OwnerParts.{records_stay}
 use Rattle.op_use.proofs.OwnerRuns.{Ascends, IsRun, Starts, beside, irreflexive, own_is, run}
 use Rattle.op_use.proofs.OwnerRuns.{of_owner as of_run}
 use Rattle.op_use.specs.AppliedRecords.{records_after}
-use Rattle.op_use.specs.Applying.{IsZoneMap, IsZoneSet, KeepsSame, data_in_set, names_owner, records_at, records_in}
+use Rattle.op_use.specs.Applying.{IsZoneMap, KeepsSame, data_in_set, names_owner, records_at, records_in}
 use Rattle.op_use.specs.Applying.{zone_of_map}
 use Rattle.op_use.specs.HeldZone.{HeldZone, zone_held}
 use Rattle.op_use.specs.MapUpdates.{IsAfter, IsLeft, IsUpdated, Opens, has_key, names_set}
@@ -140,23 +141,19 @@ module _ (origin owner : NameValue) (class : DNSClass) (rs : List (Record RData)
 
 -- ---- what an outcome has of one owner
 
-module _ (owner : NameValue) (y z part now : HeldZone) (rs : List (Record RData)) (ks xs ws : List RrKey)
-    (stood_now : BTreeMap RrKey SetValue) (first mid : Outcome) (is : y ≡ z) (fits : IsZoneMap y.class y.sets)
+module _ (owner : NameValue) (z part now : HeldZone) (rs : List (Record RData)) (ks : List RrKey)
+    (stood_now : BTreeMap RrKey SetValue) (first mid : Outcome) (before : IsZoneMap z.class z.sets)
     (names : (q : RrKey) → names_owner rs q ≡ true → is_owned owner q ≡ true)
     (new : (q : RrKey) → is_owned owner q ≡ true → HasNothing first q)
-    (are : ks ≡ filter (λ k. is_owned owner k) (tree.keys y.sets)) (xs_are : xs ≡ ks) (ws_are : ws ≡ ks)
-    (opens : Opens xs z part) (updated : IsUpdated rs part now) (now_is : stood_now ≡ now.sets)
+    (are : ks ≡ filter (λ k. is_owned owner k) (tree.keys z.sets)) (opens : Opens ks z part)
+    (updated : IsUpdated rs part now) (now_is : stood_now ≡ now.sets)
     (added : mid.added ≡ first.added) (replaced : mid.replaced ≡ first.replaced)
-    (gone : mid.gone.items ≡ first.gone.items ++ filter (λ k. not (is_some (tree.get key_cmp stood_now k))) ws) where
-  before : IsZoneMap z.class z.sets
-  before = subst (λ (x : HeldZone). IsZoneMap x.class x.sets) is fits
-
+    (gone : mid.gone.items ≡ first.gone.items ++ filter (λ k. not (is_some (tree.get key_cmp stood_now k))) ks) where
   keys : (q : RrKey) → has_key q ks ≡ (is_owned owner q && is_some (tree.get key_cmp z.sets q))
-  keys q = ap (has_key q) are ∙ owned_key owner q y.sets
-      ∙ ap (λ (x : HeldZone). is_owned owner q && is_some (tree.get key_cmp x.sets q)) is
+  keys q = ap (has_key q) are ∙ owned_key owner q z.sets
 
   opened : (q : RrKey) → tree.get key_cmp part.sets q ≡ cond (is_owned owner q) (tree.get key_cmp z.sets q) None
-  opened q = opens.holds q ∙ ap (λ b. cond b (tree.get key_cmp z.sets q) None) (ap (has_key q) xs_are ∙ keys q)
+  opened q = opens.holds q ∙ ap (λ b. cond b (tree.get key_cmp z.sets q) None) (keys q)
       ∙ by (is_owned owner q) (tree.get key_cmp z.sets q) where
         by : (b : Bool) (o : Option SetValue) → cond (b && is_some o) o None ≡ cond b o None
         by true (Some s) = refl
@@ -164,10 +161,7 @@ module _ (owner : NameValue) (y z part now : HeldZone) (rs : List (Record RData)
         by false o = refl
 
   part_map : IsZoneMap z.class part.sets
-  part_map q s e = by (is_owned owner q) (sym (opened q) ∙ e) where
-    by : (b : Bool) → cond b (tree.get key_cmp z.sets q) None ≡ Some s → IsZoneSet z.class q s
-    by true f = before q s f
-    by false f = absurd cc
+  part_map = map_part z.class (is_owned owner) z.sets part.sets opened before
 
   after : IsAfter z.origin z.class rs part.sets now.sets
   after = subst (λ (y : HeldZone). IsZoneMap y.class y.sets → IsAfter y.origin y.class rs y.sets now.sets)
@@ -180,8 +174,8 @@ module _ (owner : NameValue) (y z part now : HeldZone) (rs : List (Record RData)
       ∙ ap (λ b. has_key q first.gone.items || b)
       (any-filter_same (λ k. eq_by_cmp key_cmp k q) (λ k. not (is_some (tree.get key_cmp stood_now k)))
       (not (is_some (tree.get key_cmp stood_now q)))
-      (λ k e. ap (λ x. not (is_some (tree.get key_cmp stood_now x))) (same_key k q e)) ws
-      ∙ ap (λ b. not (is_some (tree.get key_cmp stood_now q)) && b) (ap (has_key q) ws_are ∙ keys q))
+      (λ k e. ap (λ x. not (is_some (tree.get key_cmp stood_now x))) (same_key k q e)) ks
+      ∙ ap (λ b. not (is_some (tree.get key_cmp stood_now q)) && b) (keys q))
 
   mid_at : (q : RrKey) → is_owned owner q ≡ true
       → change_at mid q ≡ noted (tree.get key_cmp z.sets q) (tree.get key_cmp now.sets q)
@@ -275,12 +269,6 @@ leaves_none z q c before e = subst (λ (x : Change). Leaves [] z q x) (sym e) (r
   kept = λ e. refl;
 })
 
-positive : (n : ℕ) → 0 < 1 + n
-positive n = omega arith
-
-some_first : {A : Type 0} (x : A) (xs : List A) → x ∷ xs ≡ [] → ⊥
-some_first x xs e = absurd cc
-
 -- Under a key, by what is left of the updates of its owner: they are still to be carried out, or the outcome has what
 -- they leave.
 abbrev pub IsGatheredAt : List (Record RData) → HeldZone → RrKey → List (Record RData) → Change → Type 0
@@ -315,8 +303,9 @@ module _ (rs : List (Record RData)) (z : HeldZone) where
     here q e = own_is n q e rest ∙ front.0
 
     itself : (q : RrKey) → is_owned n q ≡ true → own ≡ [] → ⊥
-    itself q e none = some_first first.now (own_updates q (each more))
-        (sym (ap (λ us. own_updates q (each us)) is ∙ cond-true _ _ _ e) ∙ here q e ∙ none)
+    itself q e none =
+        let some : first.now ∷ own_updates q (each more) ≡ [] =
+        sym (ap (λ us. own_updates q (each us)) is ∙ cond-true _ _ _ e) ∙ here q e ∙ none in absurd cc
 
     gathered_own : (q : RrKey) → is_owned n q ≡ true → (own ≡ own_updates q rs) × HasNothing o q
     gathered_own q e = by (h q) where
@@ -350,7 +339,7 @@ module _ (rs : List (Record RData)) (z : HeldZone) where
 
     pub some_here : 0 < k
     some_here = subst (λ us. 0 < prefix_len (of_run n) us) (sym is)
-        (subst (λ b. 0 < cond b (1 + prefix_len (of_run n) more) 0) (sym ((same_by-equiv folded).refl n)) (positive _))
+        (subst (λ b. 0 < cond b (1 + prefix_len (of_run n) more) 0) (sym ((same_by-equiv folded).refl n)) (omega arith))
 
   -- the updates of one owner, from a place on
   module _ (xs all : List (Bor (Record RData))) (done count : ℕ) (d : Bor (Record RData)) (o : Outcome)

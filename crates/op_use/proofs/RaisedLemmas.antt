@@ -4,17 +4,17 @@ use Rattle.base.specs.declared.dns_class.DNSClass.{DNSClass}
 use Rattle.base.specs.declared.rr_key.RrKey.{RrKey}
 use Rattle.base_data.specs.SameData.{same_data}
 use Rattle.base_data.specs.declared.rdata.RData.{RData}
-use Rattle.op_use.proofs.KeySets.{each_key, put_beside, put_here}
+use Rattle.op_use.proofs.KeySets.{each_key}
 use Rattle.op_use.specs.Applying.{HasSameSets, IsZoneMap, IsZoneSet}
 use Rattle.op_use.specs.RaisedSerial.{IsRaised, IsRaisedTo, raised_data, raised_records, raised_set}
 use Rattle.rr.specs.RecordSet.{SetValue}
 use Rattle.rr.specs.declared.record.Record.{Record}
-use Rattle.std.proofs.Common.{Bool, List, None, Option, Some, [], ap, false, length, refl, subst, sym, ℕ, ◌∙◌, ◌∷◌, ◌≡◌}
+use Rattle.std.proofs.Common.{Bool, List, None, Option, Some, [], ap, length, refl, subst, sym, ℕ, ◌∙◌, ◌∷◌, ◌≡◌}
 use Rattle.std.specs.BTreeMap.{BTreeMap, Updates, get}
 use Rattle.std.specs.List.{IsDistinct}
 use Rattle.std.specs.Option.{option_and_then}
-use Rattle.std.specs.Ordering.{eq_by_cmp, on}
-use Rattle.std.specs.Prelude.{MatchOption, option_map, slice_index_or, slice_set, ◌≢◌}
+use Rattle.std.specs.Ordering.{on}
+use Rattle.std.specs.Prelude.{MatchOption, option_map, slice_index_or, slice_set}
 
 -- ---- records
 
@@ -36,12 +36,6 @@ one_raised [] z d o one h = absurd cc
 one_raised (x ∷ y ∷ more) z d o one h = absurd cc
 one_raised (x ∷ []) z d None one (none, same) = (ap (one_with x) none, ap (λ e. with_data x e ∷ []) same)
 one_raised (x ∷ []) z d (Some n) one h = ap (one_with x) h
-
--- none of other numbers of records
-pub not_one : (rs : List (Record RData)) → length rs ≢ 1 → raised_records rs ≡ None
-not_one [] h = refl
-not_one (r ∷ []) h = absurd (h refl)
-not_one (r ∷ s ∷ more) h = refl
 
 -- what is raised is one record
 pub one_left : (xs rs : List (Record RData)) (n : ℕ) → raised_records xs ≡ Some (rs, n)

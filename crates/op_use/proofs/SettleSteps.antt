@@ -16,16 +16,13 @@ use Rattle.op_use.specs.declared.apply.outcome.Outcome.{Outcome}
 use Rattle.rr.specs.Record.{record_key}
 use Rattle.rr.specs.RecordSet.{SetValue}
 use Rattle.rr.specs.declared.record.Record.{Record}
-use Rattle.std.proofs.Common.{ap, append_assoc, inl, inr, refl, subst, sym, ◌∙◌}
+use Rattle.std.proofs.Common.{ap, inl, inr, refl, subst, sym, ◌∙◌}
 use Rattle.std.proofs.Math.Bool.{or-false, or-true}
 use Rattle.std.proofs.lemmas.Bool.{true≢false}
-use Rattle.std.proofs.lemmas.List.Elements.{filter-append}
 use Rattle.std.proofs.lemmas.List.Folds.{list_any-append}
-use Rattle.std.proofs.lemmas.List.{append-nil}
 use Rattle.std.specs.BTreeMap as tree
 use Rattle.std.specs.BTreeMap.{BTreeMap, is_at}
 use Rattle.std.specs.Cmp.{eq_by_cmp_equiv}
-use Rattle.std.specs.List.{filter}
 use Rattle.std.specs.Map.{keys_of}
 use Rattle.std.specs.Ordering.{eq_by_cmp}
 use Rattle.std.specs.Prelude.{Bool, List, None, Option, Some, [], cond, false, is_some, true, ◌&&◌, ◌++◌}
@@ -194,16 +191,6 @@ module _ (rs : List (Record RData)) (r : Record RData) (all : List (Record RData
           replaced = found (r i).items q;
           is_gone = has_key q (g i).items;
         })
-
--- ---- keys that pass a test, with one key more
-pub kept_next : (p : RrKey → Bool) (from xs all : List RrKey) (x : RrKey) (b : Bool) → xs ++ x ∷ [] ≡ all → p x ≡ b
-    → cond b ((from ++ filter p xs) ++ x ∷ []) (from ++ filter p xs) ≡ from ++ filter p all
-kept_next p from xs all x b grown e = by b ∙ ap (λ c. from ++ (filter p xs ++ cond c (x ∷ []) [])) (sym e)
-    ∙ ap (λ ks. from ++ ks) (sym (filter-append p xs (x ∷ [])) ∙ ap (filter p) grown) where
-      by : (b : Bool) → cond b ((from ++ filter p xs) ++ x ∷ []) (from ++ filter p xs)
-          ≡ from ++ (filter p xs ++ cond b (x ∷ []) [])
-      by true = append_assoc from (filter p xs) (x ∷ [])
-      by false = ap (λ ks. from ++ ks) (sym (append-nil (filter p xs)))
 
 -- ---- sets put into the map
 

@@ -10,7 +10,7 @@ use Rattle.op_use.proofs.ZoneSteps.{tied}
 use Rattle.op_use.specs.AppliedRecords.{after_by, after_update, with_record}
 use Rattle.op_use.specs.Applying.{IsZoneMap, records_at, zone_of_map}
 use Rattle.op_use.specs.MapUpdates.{IsAfter, IsLeft, IsSetTo, names_set}
-use Rattle.op_use.specs.NamedChanges.{datum_of}
+use Rattle.op_use.specs.NamedChanges.{datum_of, is_key_left}
 use Rattle.op_use.specs.Server.{OfAny, OfNone, OfNothing, OfZone, is_any, is_kept_out, is_needed, is_under, use_of}
 use Rattle.op_use.specs.Zone.{is_guarded, is_owned}
 use Rattle.rr.specs.Record.{record_key, type_of_record}
@@ -90,15 +90,17 @@ module _ (origin : NameValue) (class : DNSClass) (m : BTreeMap RrKey SetValue) (
 
     -- all sets of a name but those that stay
     pub clears : (n : BTreeMap RrKey SetValue) → use_of class r.dns_class ≡ OfAny → is_any (type_of_record r) ≡ true
-        → ((q : RrKey) → tree.get key_cmp n q ≡ cond (is_owned r.name q
-        && not (is_guarded (zone_of_map origin class m) r.name q.record_type)) None (tree.get key_cmp m q))
+        → ((q : RrKey) → tree.get key_cmp n q
+        ≡ cond (is_key_left (zone_of_map origin class m) r.name q) (tree.get key_cmp m q) None)
         → IsAfter origin class (r ∷ []) m n
     clears n u c h q = subst (λ o. IsLeft (zone_of_map origin class m) (r ∷ []) q (tree.get key_cmp m q) o)
-        (sym (h q)) (by _ (ap (λ how. after_by how (zone_of_map origin class m) r q (records_at m q)) u
+        (sym (h q)) (by (is_owned r.name q) (is_guarded (zone_of_map origin class m) r.name q.record_type)
+        (ap (λ how. after_by how (zone_of_map origin class m) r q (records_at m q)) u
         ∙ ap (λ b. cond b [] (records_at m q)) (cond-true _ _ _ c))) where
-          by : (b : Bool)
-              → after_update (zone_of_map origin class m) r q (records_at m q) ≡ cond b [] (records_at m q)
+          by : (o g : Bool)
+              → after_update (zone_of_map origin class m) r q (records_at m q) ≡ cond (o && not g) [] (records_at m q)
               → IsLeft (zone_of_map origin class m) (r ∷ []) q (tree.get key_cmp m q)
-              (cond b None (tree.get key_cmp m q))
-          by true e = record { fits = λ s f. absurd cc; exact = sym e; source = λ s f. absurd cc }
-          by false e = record { fits = old q; exact = sym e; source = λ s f. inl f }
+              (cond (not o || g) (tree.get key_cmp m q) None)
+          by true false e = record { fits = λ s f. absurd cc; exact = sym e; source = λ s f. absurd cc }
+          by true true e = record { fits = old q; exact = sym e; source = λ s f. inl f }
+          by false g e = record { fits = old q; exact = sym e; source = λ s f. inl f }

@@ -6,7 +6,8 @@ use Rattle.base.specs.declared.rr_key.RrKey.{RrKey}
 use Rattle.base_data.specs.declared.rdata.RData.{RData}
 use Rattle.op_use.specs.AppliedRecords.{records_after}
 use Rattle.op_use.specs.Applying.{IsZoneMap, IsZoneSet, records_at, records_in, zone_of_map}
-use Rattle.op_use.specs.HeldZone.{HeldZone}
+use Rattle.op_use.specs.HeldZone.{HeldZone, zone_held}
+use Rattle.op_use.specs.NamedChanges.{is_key_left}
 use Rattle.op_use.specs.Server.{OfAny, OfNone, OfNothing, OfZone, Use as UseValue, is_under}
 use Rattle.op_use.specs.Zone.{Zone}
 use Rattle.op_use.specs.declared.apply.rules.Use.TheVariants as uses
@@ -65,6 +66,11 @@ IsUpdated rs = HasSets (λ z sets. IsZoneMap z.class z.sets
 -- the new zone has these records under a key, and else what the old one has
 abbrev pub HoldsAt : RrKey → List (Record RData) → HeldZone → HeldZone → Type 0
 HoldsAt k xs = HasSets (λ z sets. IsSetTo z.class k xs z.sets sets)
+
+-- the new zone is the old one without the sets of an owner, of which SOA and NS stay at the origin
+abbrev pub LacksOwner : NameValue → HeldZone → HeldZone → Type 0
+LacksOwner owner = HasSets (λ z sets. (q : RrKey) → tree.get key_cmp sets q
+    ≡ cond (is_key_left (zone_held z) owner q) (tree.get key_cmp z.sets q) None)
 
 -- whether a key is among others
 abbrev pub has_key : RrKey → List RrKey → Bool

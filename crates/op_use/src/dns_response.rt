@@ -143,12 +143,10 @@ impl DnsResponse {
     pub fn contains_answer(&self) -> bool
         ensures { result ≡ contains_answer self.now.message }
     {
-        for query in &self.message.queries {
-            if answers_query(&self.message, query) {
-                return true;
-            }
-        }
-        false
+        self.message
+            .queries
+            .iter()
+            .any(|query| answers_query(&self.message, query))
     }
 
     /// The bytes that the response was read from, or is written as.
@@ -253,12 +251,7 @@ fn has_name(message: &Message, name: &Name) -> bool
     ensures { result
         ≡ list_any (λ r. same_name r.name name.now) (all_records (message_value message.now)) }
 {
-    for record in message.all_sections() {
-        if record.name == *name {
-            return true;
-        }
-    }
-    false
+    message.all_sections().any(|record| record.name == *name)
 }
 
 /// Whether any record is the SOA of a zone in which the name lies.
@@ -266,12 +259,8 @@ fn has_soa_above(message: &Message, name: &Name) -> bool
     ensures { result ≡ list_any (λ r. is_of types.SOA r
         && is_zone_of r.name name.now) (all_records (message_value message.now)) }
 {
-    for record in message.all_sections() {
-        if record.record_type() == RecordType::SOA && record.name.zone_of(name) {
-            return true;
-        }
-    }
-    false
+    message.all_sections().any(|record| record.record_type() == RecordType::SOA
+        && record.name.zone_of(name))
 }
 
 /// Whether any record has the type and the name.
@@ -279,10 +268,5 @@ fn has_record(message: &Message, record_type: RecordType, name: &Name) -> bool
     ensures { result ≡ list_any (λ r. is_of record_type r
         && same_name r.name name.now) (all_records (message_value message.now)) }
 {
-    for record in message.all_sections() {
-        if record.record_type() == record_type && record.name == *name {
-            return true;
-        }
-    }
-    false
+    message.all_sections().any(|record| record.record_type() == record_type && record.name == *name)
 }

@@ -16,7 +16,7 @@ ghost use Rattle.std.specs.Prelude.{IfOk, IsTrue, OnOk, is_some, not, true, ◌+
 use crate::apply::changing_zone::ChangingZone;
 use crate::apply::current_set::CurrentSet;
 use crate::apply::outcome::Outcome;
-use crate::apply::zone::{Zone, keys_of};
+use crate::apply::zone::{Zone, record_key};
 use base::{Name, RrKey};
 use rr::{Record, RecordSet};
 use std::alloc::{AllocError, Global};
@@ -59,11 +59,11 @@ impl<'a> Zone<'a> {
         requires new { (q : Key) → is_owned owner.now q ≡ true → HasNothing outcome.old q }
         ensures { OnOk result (UpdatesOwner owner.now (each entries.now) self.now outcome.old outcome.new) }
     {
-        let keys = keys_of(self.sets, owner)?;
-        let mut part = ChangingZone::open(self, keys.as_slice())?;
+        let (mut keys, mut part) = ChangingZone::open(self, owner)?;
         part.update(entries)?;
         let sets = part.into_sets();
-        mark_gone(keys.as_slice(), &sets, &mut outcome.gone)?;
+        keys.retain(|key| !sets.contains_key(key));
+        outcome.gone.append(&mut keys)?;
         self.settle(sets, entries, outcome)
     }
 
@@ -81,7 +81,7 @@ impl<'a> Zone<'a> {
             (Settles (each entries.now) self.now.sets now.entry outcome.old outcome.new) }
     {
         for entry in entries {
-            let key = RrKey::of(&entry.name, entry.record_type())?;
+            let key = record_key(entry)?;
             let Some(set) = now.remove(&key) else {
                 continue;
             };
@@ -132,24 +132,6 @@ fn count_of_owner(owner: &Name, entries: &[&Record]) -> usize
         }
     }
     entries.len()
-}
-
-/// Notes each of these keys under which no set stands now.
-fn mark_gone(
-    keys: &[RrKey],
-    now: &BTreeMap<RrKey, CurrentSet<'_>>,
-    gone: &mut Vec<RrKey>,
-) -> Result<(), AllocError>
-    ensures { OnOk result (gone.new.items ≡ gone.old.items
-        ++ filter (λ (k : Key). not (is_some (get key_cmp now.now k))) keys.now) }
-{
-    for key in keys {
-        if now.contains_key(key) {
-            continue;
-        }
-        gone.push(key.clone()?)?;
-    }
-    Ok(())
 }
 
 /// Whether records are the same in every field, the letter case of their names too, and in this order.

@@ -1,16 +1,21 @@
 //! A zone while it is updated: of each owner that the updates name, what it has now.
 
+ghost use Rattle.base.specs.declared.rr_key.RrKey.{RrKey as Key};
 ghost use Rattle.op_use.specs.Applying.{IsZoneMap, records_at};
 ghost use Rattle.op_use.specs.HeldZone.{HeldZone};
-ghost use Rattle.op_use.specs.MapUpdates.{HoldsAt, Opens};
+ghost use Rattle.op_use.specs.MapUpdates.{HoldsAt, LacksOwner, Opens};
+ghost use Rattle.op_use.specs.Zone.{is_owned};
 ghost use Rattle.rr.specs.Record.{record_key};
 ghost use Rattle.rr.specs.SetChanges.{joined};
 ghost use Rattle.rr.specs.SetUpdates.{without};
+ghost use Rattle.std.specs.BTreeMap.{keys};
+ghost use Rattle.std.specs.List.{filter};
 ghost use Rattle.std.specs.Prelude.{IfOk, OnOk, [], length, ◌∷◌, ◌≡◌};
 
 use crate::apply::current_set::CurrentSet;
-use crate::apply::zone::Zone;
-use base::{DNSClass, Name, RrKey};
+use crate::apply::rules::is_guarded;
+use crate::apply::zone::{Zone, record_key};
+use base::{DNSClass, Name, RecordType, RrKey};
 use rr::Record;
 use std::alloc::{AllocError, Global};
 use std::collections::BTreeMap;
@@ -38,22 +43,33 @@ impl<'a> Model for ChangingZone<'a> {
 }
 
 impl<'a> ChangingZone<'a> {
-    /// The sets of a zone under these keys, to be updated.
-    pub(crate) fn open(zone: &Zone<'a>, keys: &[RrKey]) -> Result<ChangingZone<'a>, AllocError>
-        ensures { IfOk result (λ part. Opens keys.now zone.now part) }
+    /// The keys of an owner in a zone, and its sets, to be updated.
+    pub(crate) fn open(
+        zone: &Zone<'a>,
+        owner: &Name,
+    ) -> Result<(Vec<RrKey>, ChangingZone<'a>), AllocError>
+        ensures keys { IfOk result (λ opened. opened.0.items
+            ≡ filter (λ (k : Key). is_owned owner.now k) (keys zone.now.sets)) }
+        ensures sets { IfOk result (λ opened. Opens opened.0.items zone.now opened.1) }
+        ensures zone { IfOk result (λ _. IsZoneMap zone.now.class zone.now.sets) }
     {
-        let mut sets = BTreeMap::new(zone.origin.allocator());
-        for key in keys {
-            let Some(set) = zone.sets.get(key) else {
-                continue;
-            };
+        let least = RrKey::of(owner, RecordType::ZERO)?;
+        let alloc = owner.allocator();
+        let mut found = Vec::new(alloc);
+        let mut sets = BTreeMap::new(alloc);
+        for (key, set) in zone.sets.range(&least..) {
+            if least.name != key.name {
+                break;
+            }
+            found.push(key.clone()?)?;
             sets.insert(key.clone()?, CurrentSet::of_zone(set))?;
         }
-        Ok(ChangingZone {
+        let part = ChangingZone {
             origin: zone.origin,
             class: zone.class,
             sets,
-        })
+        };
+        Ok((found, part))
     }
 
     /// How many records are under a key.
@@ -86,7 +102,7 @@ impl<'a> ChangingZone<'a> {
             (without (entry.now ∷ []) (records_at self.old.sets (record_key entry.now)))
             self.old self.new) }
     {
-        let key = RrKey::of(&entry.name, entry.record_type())?;
+        let key = record_key(entry)?;
         let Some(set) = self.sets.remove(&key) else {
             return Ok(());
         };
@@ -103,6 +119,17 @@ impl<'a> ChangingZone<'a> {
         ensures { HoldsAt key.now [] self.old self.new }
     {
         self.sets.remove(key);
+    }
+
+    /// Takes the sets of an owner out; at the origin SOA and NS stay.
+    pub(super) fn remove_owner(&mut self, owner: &Name) -> Result<(), AllocError>
+        ensures { OnOk result (LacksOwner owner.now self.old self.new) }
+    {
+        let least = RrKey::of(owner, RecordType::ZERO)?;
+        let origin = self.origin;
+        self.sets.retain(|key, _| least.name != key.name
+            || is_guarded(origin, owner, key.record_type));
+        Ok(())
     }
 
     /// The sets of these owners now.

@@ -12,7 +12,7 @@ ghost use Rattle.std.specs.List.{IsAmong, list_all, list_any};
 ghost use Rattle.std.specs.Prelude.{IfOk, IfSome, OnOk, true, ◌&&◌, ◌≡◌};
 
 use crate::apply::rules::{Use, use_of};
-use crate::apply::zone::{Zone, has_type};
+use crate::apply::zone::{Zone, has_type, record_key};
 use base::{DNSClass, RecordType, RrKey};
 use op::ResponseCode;
 use rr::{DataIndex, Record, RecordSet, data_key};
@@ -83,7 +83,7 @@ impl<'a> Zone<'a> {
         if entry.record_type() == RecordType::ANY {
             return has_type(self.sets, &entry.name, false);
         }
-        let key = RrKey::of(&entry.name, entry.record_type())?;
+        let key = record_key(entry)?;
         Ok(self.sets.contains_key(&key))
     }
 }
@@ -127,7 +127,7 @@ impl<'a> Zone<'a> {
         ensures known { OnOk result
             (AreComplete self.now.sets self.now.class entries.now held.new) }
     {
-        let key = RrKey::of(&entry.name, entry.record_type())?;
+        let key = record_key(entry)?;
         let Some(set) = self.sets.get(&key) else {
             return Ok(false);
         };
@@ -152,7 +152,7 @@ impl<'a> Zone<'a> {
             if !matches!(use_of(self.class, entry.dns_class), Use::OfZone) {
                 continue;
             }
-            let key = RrKey::of(&entry.name, entry.record_type())?;
+            let key = record_key(entry)?;
             let places = asked.entry(key)?.or_insert(BTreeMap::new(alloc));
             places.insert(data_key(&entry.rdata, alloc)?, place)?;
         }
@@ -220,12 +220,7 @@ fn has_data(records: &[Record], places: &DataIndex, entry: &Record) -> Result<bo
     if look_up(records, Some(places), entry)?.is_some() {
         return Ok(true);
     }
-    for known in records {
-        if known.rdata == entry.rdata {
-            return Ok(true);
-        }
-    }
-    Ok(false)
+    Ok(records.iter().any(|known| known.rdata == entry.rdata))
 }
 
 /// Where the data of each record of a set stands among them.

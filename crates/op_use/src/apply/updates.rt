@@ -8,7 +8,7 @@ ghost use Rattle.std.specs.Prelude.{IfOk, OnOk, [], ◌∷◌, ◌≡◌};
 
 use crate::apply::changing_zone::ChangingZone;
 use crate::apply::rules::{Use, is_guarded, use_of};
-use crate::apply::zone::{has_type, keys_of};
+use crate::apply::zone::{has_type, record_key};
 use base::{RecordType, RrKey};
 use rr::Record;
 use std::alloc::AllocError;
@@ -44,7 +44,7 @@ impl<'a> ChangingZone<'a> {
                 return Ok(());
             }
             // The owner has one CNAME at most.
-            let key = RrKey::of(&entry.name, entry.record_type())?;
+            let key = record_key(entry)?;
             self.remove(&key);
             return self.add_record(key, entry);
         }
@@ -52,7 +52,7 @@ impl<'a> ChangingZone<'a> {
         if self.sets.contains_key(&cname) {
             return Ok(());
         }
-        let key = RrKey::of(&entry.name, entry.record_type())?;
+        let key = record_key(entry)?;
         self.add_record(key, entry)
     }
 
@@ -62,19 +62,13 @@ impl<'a> ChangingZone<'a> {
         ensures { OnOk result (IsUpdated (entry.now ∷ []) self.old self.new) }
     {
         if entry.record_type() == RecordType::ANY {
-            let keys = keys_of(&self.sets, &entry.name)?;
-            for key in keys.as_slice() {
-                if is_guarded(self.origin, &entry.name, key.record_type) {
-                    continue;
-                }
-                self.remove(key);
-            }
+            self.remove_owner(&entry.name)?;
             return Ok(());
         }
         if is_guarded(self.origin, &entry.name, entry.record_type()) {
             return Ok(());
         }
-        let key = RrKey::of(&entry.name, entry.record_type())?;
+        let key = record_key(entry)?;
         self.remove(&key);
         Ok(())
     }
@@ -89,7 +83,7 @@ impl<'a> ChangingZone<'a> {
         if !is_guarded(self.origin, &entry.name, entry.record_type()) {
             return Ok(false);
         }
-        let key = RrKey::of(&entry.name, entry.record_type())?;
+        let key = record_key(entry)?;
         Ok(self.count(&key) <= 1)
     }
 }

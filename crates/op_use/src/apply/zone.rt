@@ -4,12 +4,13 @@ ghost use Rattle.base.specs.declared.rr_key.RrKey.{RrKey as Key};
 ghost use Rattle.op_use.specs.HeldZone.{HeldZone};
 ghost use Rattle.op_use.specs.Server.{is_cname as is_cname_type};
 ghost use Rattle.op_use.specs.Zone.{is_owned};
+ghost use Rattle.rr.specs.Record.{record_key};
 ghost use Rattle.std.specs.BTreeMap.{keys};
-ghost use Rattle.std.specs.List.{filter, list_any};
+ghost use Rattle.std.specs.List.{list_any};
 ghost use Rattle.std.specs.Prelude.{IfOk, not, ◌&&◌, ◌≡◌};
 
 use base::{DNSClass, Name, RecordType, RrKey};
-use rr::RecordSet;
+use rr::{Record, RecordSet};
 use std::alloc::AllocError;
 use std::collections::BTreeMap;
 use std::marker::Model;
@@ -35,6 +36,13 @@ impl<'a> Model for Zone<'a> {
     ghost invariant = { λ z. IsZoneMap z.class z.sets.now };
 }
 
+/// The key of the set of a record.
+pub(crate) fn record_key(entry: &Record) -> Result<RrKey, AllocError>
+    ensures { IfOk result (λ key. key ≡ record_key entry.now) }
+{
+    RrKey::of(&entry.name, entry.record_type())
+}
+
 /// Whether an owner has a set, of any type or of any but CNAME.
 pub(crate) fn has_type<V>(
     sets: &BTreeMap<RrKey, V>,
@@ -56,20 +64,4 @@ pub(crate) fn has_type<V>(
         return Ok(true);
     }
     Ok(false)
-}
-
-/// The keys of an owner.
-pub(crate) fn keys_of<V>(sets: &BTreeMap<RrKey, V>, owner: &Name) -> Result<Vec<RrKey>, AllocError>
-    ensures { IfOk result (λ ks. ks.items ≡ filter (λ (k : Key). is_owned owner.now k) (keys sets.now)) }
-{
-    let least = RrKey::of(owner, RecordType::ZERO)?;
-    let mut found = Vec::new(owner.allocator());
-    for (key, _) in sets.range(&least..) {
-        if least.name != key.name {
-            return Ok(found);
-        }
-        let copy = key.clone()?;
-        found.push(copy)?;
-    }
-    Ok(found)
 }

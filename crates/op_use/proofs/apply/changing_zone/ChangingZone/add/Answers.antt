@@ -12,7 +12,7 @@ use Rattle.op_use.specs.MapUpdates.{HoldsAt}
 use Rattle.op_use.specs.Server.{is_cname}
 use Rattle.op_use.specs.Zone.{is_owned}
 use Rattle.rr.specs.Record.{record_key}
-use Rattle.std.proofs.Common.{[], ap, is_some, not, subst, sym, ◌&&◌, ◌∙◌, ◌≡◌}
+use Rattle.std.proofs.Common.{[], ap, is_some, not, subst, sym, ◌&&◌, ◌∙◌}
 use Rattle.std.proofs.lemmas.Bool.{cond-false, cond-true}
 use Rattle.std.proofs.lemmas.Result.{on_ok_weaker}
 use Rattle.std.specs.BTreeMap.{get, keys}
@@ -32,11 +32,9 @@ pub returns-then-eq : goal.returns-then-eq
 returns-then-eq c =
     let z = c.args.self.now in
     let r = c.args.entry.now in
-    let own : c.in_ok-key.key ≡ record_key c.args.entry.now =
-    c.in_ok-key.ensures ∙ ap (key_of c.args.entry.now.name) c.record_type-then-eq.ensures in
     let alias = ap is_cname (sym c.record_type.ensures) ∙ cname_is c.record_type.result ∙ sym c.eq.ensures
     ∙ c.if-eq.true in
-    let out = subst (λ (k : RrKey). HoldsAt k [] z c.remove.new.self) own c.remove.ensures in
+    let out = subst (λ (k : RrKey). HoldsAt k [] z c.remove.new.self) c.in_ok-key.ensures c.remove.ensures in
     on_ok_weaker c.add_record.result (λ held.
     moves_so z c.add_record.new.self r (with_record r) _ (adds z.origin z.class z.sets r c.requires)
     (ap not (cond-true _ _ _ alias ∙ types_at z.origin z.class z.sets c.args.entry.now.name (λ t. not (is_cname t))

@@ -1,5 +1,4 @@
 use Rattle.base.specs.names.NameOrder.{same_name}
-use Rattle.base.specs.RrKey.{key_of}
 use Rattle.op_use.proofs.TypeSteps.{soa_is}
 use Rattle.op_use.proofs.UpdateSteps.{counted}
 use Rattle.op_use.proofs.apply.changing_zone.ChangingZone.is_needed.Goals as goal
@@ -44,7 +43,5 @@ returns c =
     (sym c.self.view_is)
     ∙ ap (λ t. same_name c.args.entry.now.name c.self.inside.origin.now && (is_soa t || is_ns t))
     (sym c.record_type-2.ensures) ∙ sym c.is_guarded.ensures ∙ c.if-not-is_guarded.false in
-    let key_is : c.in_ok-key.key ≡ record_key c.args.entry.now =
-    c.in_ok-key.ensures ∙ ap (key_of c.args.entry.now.name) c.record_type-3.ensures in
-    ap (λ n. nat_le n 1) (c.count.ensures ∙ ap (λ k. length (records_at z.sets k)) key_is)
+    ap (λ n. nat_le n 1) (c.count.ensures ∙ ap (λ k. length (records_at z.sets k)) c.in_ok-key.ensures)
     ∙ sym (counted z.origin z.class z.sets c.args.entry.now ∙ (λ i. no_soa i || (guarded i && few)))

@@ -1,68 +1,91 @@
+use Rattle.base.proofs.names.KeyLemmas.{key_cmp-total}
 use Rattle.base.specs.RrKey.{key_cmp}
-use Rattle.base.specs.declared.dns_class.DNSClass.{DNSClass}
-use Rattle.op_use.specs.Applying.{IsZoneMap, IsZoneSet}
+use Rattle.base.specs.names.Labels.{NameValue}
+use Rattle.base.specs.names.NameOrder.{same_lower}
 use Rattle.base.specs.declared.rr_key.RrKey.{RrKey}
-use Rattle.op_use.proofs.KeySets.{Sets, none_in, one_more, one_taken, put_beside, put_here, same_more}
+use Rattle.op_use.proofs.ChangingSteps.{map_part}
+use Rattle.op_use.proofs.KeySets.{Sets, none_in, one_more, put_beside, put_here}
+use Rattle.op_use.proofs.OwnerKeys.{all_here, all_start}
 use Rattle.op_use.proofs.apply.changing_zone.ChangingZone.open.Goals as goal
-use Rattle.op_use.specs.MapUpdates.{Opens, has_key}
+use Rattle.op_use.proofs.apply.changing_zone.ChangingZone.open.Invariants.{IsOpening}
+use Rattle.op_use.specs.Applying.{IsZoneMap}
 use Rattle.op_use.specs.HeldZone.{HeldZone}
+use Rattle.op_use.specs.MapUpdates.{has_key}
+use Rattle.op_use.specs.Zone.{is_owned}
 use Rattle.rr.specs.RecordSet.{SetValue}
-use Rattle.std.proofs.Common.{Bool, List, false, true, None, Some, ap, cond, refl, rules, subst, sym, ◌∙◌, ◌≡◌}
-use Rattle.std.proofs.lemmas.List.{take_all}
+use Rattle.std.proofs.Common.{[], List, None, Some, ap, cond, rules, subst, sym, true, ◌++◌, ◌∙◌, ◌∷◌, ◌≡◌}
+use Rattle.std.proofs.lemmas.Bool.{not-false}
+use Rattle.std.proofs.lemmas.List.Elements.{All-filter, All-head, All-tail}
+use Rattle.std.proofs.lemmas.Map.Views.{All-found}
 use Rattle.std.specs.BTreeMap.{BTreeMap, get}
+use Rattle.std.specs.List.{All}
 
-abbrev Is : BTreeMap RrKey SetValue → BTreeMap RrKey SetValue → List RrKey → Type 0
-Is m part ks = (q : RrKey) → get key_cmp part q ≡ cond (has_key q ks) (get key_cmp m q) None
+abbrev Found : BTreeMap RrKey SetValue → RrKey × SetValue → Type 0
+Found m e = get key_cmp m e.0 ≡ Some e.1
 
 pub loop-key-init : goal.loop-key-init
-loop-key-init c = λ q. none_in c.new-sets.result q c.new-sets.ensures.empty
+loop-key-init c =
+    let m = c.zone.inside.sets.now in
+    let left = c.into_iter-key-iterator.ensures.into_iter_gives ∙ c.range-key-items.ensures.between tt in (
+      subst (λ (y : HeldZone). IsOpening c.args.owner.now y.sets c.new-found.result.items c.new-sets.result
+          c.into_iter-key-iterator.result) c.zone.view_is (
+            all_start c.args.owner.now c.in_ok-least.least _ m.entries _ c.new-found.ensures.items
+                c.in_ok-least.ensures c.range-key-items.ensures.ordered left,
+            (λ q. none_in c.new-sets.result q c.new-sets.ensures.empty
+                ∙ sym (ap (λ ks. cond (has_key q ks) (get key_cmp m q) None) c.new-found.ensures.items)),
+            subst (All (Found m)) (sym left)
+                (All-filter _ (Found m) m.entries (All-found key_cmp-total m c.range-key-items.ensures.ordered)),
+          ),
+      tt,
+      tt,
+    )
+
+-- one set more
+more : (owner : NameValue) (m part new : BTreeMap RrKey SetValue) (found next : List RrKey)
+    (left rest : List (RrKey × SetValue)) (j k : RrKey) (s t : SetValue) → next ≡ found ++ k ∷ []
+    → left ≡ (k, s) ∷ rest → is_owned owner k ≡ true → j ≡ k → t ≡ s → Sets j (Some t) part new
+    → IsOpening owner m found part left → IsOpening owner m next new rest
+more owner m part new found next left rest j k s t grown first own copy same puts (keys, sets, all) =
+    let here = subst (All (Found m)) first all in
+    let put = subst (λ x. Sets x (Some t) part new) copy puts in (
+      all_here owner found grown first own keys,
+      subst (λ ks. (q : RrKey) → get key_cmp new q ≡ cond (has_key q ks) (get key_cmp m q) None) (sym grown)
+          (one_more (λ q. get key_cmp m q) (λ q. None) k found part sets new
+          (put_here k (Some t) part new put ∙ ap Some same ∙ sym (All-head (Found m) (k, s) rest here))
+          (put_beside k (Some t) part new put)),
+      All-tail (Found m) (k, s) rest here,
+    )
 
 pub loop-key-preserved : goal.loop-key-preserved
-loop-key-preserved c =
-    let m = c.args.zone.now.sets in
-    let k = c.key-item.result in
-    let copy : c.in_ok-clone.field-0 ≡ c.key-item.result = search rules in
-    let puts : Sets c.key-item.result (Some c.of_zone.result) c.loop-key.sets c.insert.new.self =
-    subst (λ (x : RrKey). Sets x (Some c.of_zone.result) c.loop-key.sets c.insert.new.self) copy
-    c.in_ok-insert.ensures.updates.0 in
-    subst (λ ks. Is m c.insert.new.self ks) (one_taken _ c.loop-key.key-index k c.loop-key-test.true c.key-item.is)
-    (one_more (λ q. get key_cmp m q) (λ q. None) k _ c.loop-key.sets c.loop-key.invariant c.insert.new.self
-    (put_here k _ c.loop-key.sets c.insert.new.self puts ∙ ap Some c.of_zone.ensures ∙ c.in-Some.ensures.value
-    ∙ ap (λ (z : HeldZone). get key_cmp z.sets c.key-item.result) c.zone.view_is)
-    (put_beside k _ c.loop-key.sets c.insert.new.self puts))
+loop-key-preserved c = (
+  more c.args.owner.now c.args.zone.now.sets c.loop-key.sets c.insert.new.self c.loop-key.found.items
+      c.push.new.self.items c.loop-key.key-iterator c.next.new.self c.in_ok-clone-2.field-0 c.in-Some.key.now
+      c.in-Some.set.now c.of_zone.result (search rules) c.in-Some.ensures.steps
+      (ap (λ k. same_lower k.name c.in-Some.key.now.name) (sym c.in_ok-least.ensures)
+      ∙ not-false _ (sym c.ne.ensures ∙ c.if-ne.false)) (search rules) c.of_zone.ensures
+      c.in_ok-insert.ensures.updates.0 c.loop-key.invariant.0,
+  tt,
+  tt,
+)
 
-pub loop-key-preserved-in_default : goal.loop-key-preserved-in_default
-loop-key-preserved-in_default c =
-    let m = c.args.zone.now.sets in
-    let k = c.key-item.result in
-    subst (λ ks. Is m c.loop-key.sets ks) (one_taken _ c.loop-key.key-index k c.loop-key-test.true c.key-item.is)
-    (same_more (λ q. get key_cmp m q) (λ q. None) k _ c.loop-key.sets c.loop-key.invariant
-    (ap (λ (z : HeldZone). get key_cmp z.sets c.key-item.result) (sym c.zone.view_is) ∙ sym c.in_default.ensures.value))
+pub loop-key-preserved-in_ok-insert : goal.loop-key-preserved-in_ok-insert
+loop-key-preserved-in_ok-insert c = (
+  more c.args.owner.now c.args.zone.now.sets c.loop-key.sets c.insert.new.self c.loop-key.found.items
+      c.push.new.self.items c.loop-key.key-iterator c.next.new.self c.in_ok-clone-2.field-0 c.in-Some.key.now
+      c.in-Some.set.now c.of_zone.result (search rules) c.in-Some.ensures.steps
+      (ap (λ k. same_lower k.name c.in-Some.key.now.name) (sym c.in_ok-least.ensures)
+      ∙ not-false _ (sym c.ne.ensures ∙ c.if-ne.false)) (search rules) c.of_zone.ensures
+      c.in_ok-insert.ensures.updates.0 c.loop-key.invariant.0,
+  tt,
+  tt,
+)
 
-part_at : (class : DNSClass) (q : RrKey) (s : SetValue) (m : BTreeMap RrKey SetValue) (b : Bool) → IsZoneMap class m
-    → cond b (get key_cmp m q) None ≡ Some s → IsZoneSet class q s
-part_at class q s m true h e = h q s e
-part_at class q s m false h e = absurd cc
+pub invariant_of-part : goal.invariant_of-part
+invariant_of-part c =
+    let class = c.zone.inside.class in
+    map_part class (λ q. has_key q c.loop-key.found.items) c.args.zone.now.sets c.loop-key.sets
+    c.loop-key.invariant.0.1
+    (subst (λ (y : HeldZone). IsZoneMap class y.sets) c.zone.view_is c.zone.invariant)
 
-opened : (z : HeldZone) (ks xs : List RrKey) (part : BTreeMap RrKey SetValue) → xs ≡ ks → Is z.sets part xs
-    → Is z.sets part ks
-opened z ks xs part e h = subst (λ ys. Is z.sets part ys) e h
-
-pub invariant_of-result : goal.invariant_of-result
-invariant_of-result c =
-    let z = c.zone.inside in
-    let is = opened c.args.zone.now c.args.keys.now _ c.loop-key.sets
-    (take_all c.loop-key.key-index c.args.keys.now c.loop-key-test.false) c.loop-key.invariant in
-    λ q s e. part_at z.class q s c.args.zone.now.sets (has_key q c.args.keys.now)
-    (subst (λ (y : HeldZone). IsZoneMap z.class y.sets) c.zone.view_is c.zone.invariant) (sym (is q) ∙ e)
-
-pub returns : goal.returns
-returns c =
-    let z = c.zone.inside in
-    subst (λ (y : HeldZone). Opens c.args.keys.now y
-    (record { origin = z.origin.now; class = z.class; sets = c.loop-key.sets })) c.zone.view_is (record {
-      rest = refl;
-      holds = subst (λ (y : HeldZone). Is y.sets c.loop-key.sets c.args.keys.now) (sym c.zone.view_is)
-          (opened c.args.zone.now c.args.keys.now _ c.loop-key.sets
-          (take_all c.loop-key.key-index c.args.keys.now c.loop-key-test.false) c.loop-key.invariant);
-    })
+pub returns-clause-zone : goal.returns-clause-zone
+returns-clause-zone c = subst (λ (y : HeldZone). IsZoneMap y.class y.sets) c.zone.view_is c.zone.invariant

@@ -1,11 +1,24 @@
 use Rattle.base.specs.RrKey.{key_cmp}
+use Rattle.base.specs.names.Labels.{NameValue}
 use Rattle.base.specs.declared.rr_key.RrKey.{RrKey}
+use Rattle.op_use.proofs.OwnerKeys.{owned_entry}
 use Rattle.op_use.proofs.apply.changing_zone.ChangingZone.open.Given as goal
 use Rattle.op_use.specs.MapUpdates.{has_key}
-use Rattle.std.proofs.Common.{None, cond, take, ◌≡◌}
-use Rattle.std.specs.BTreeMap.{get}
+use Rattle.op_use.specs.Zone.{is_owned}
+use Rattle.rr.specs.RecordSet.{SetValue}
+use Rattle.std.proofs.Common.{List, None, Some, cond, ◌++◌, ◌≡◌}
+use Rattle.std.specs.BTreeMap.{BTreeMap, get, keys}
+use Rattle.std.specs.List.{All, filter, take_while}
+use Rattle.std.specs.Map.{keys_of}
 
--- the sets under the keys so far are here
+-- the keys found and those among what is left of the owner's are all, and the sets under those found are here
+abbrev pub IsOpening : NameValue → BTreeMap RrKey SetValue → List RrKey → BTreeMap RrKey SetValue
+    → List (RrKey × SetValue) → Type 0
+IsOpening owner m found sets left =
+    (found ++ keys_of (take_while (owned_entry owner) left) ≡ filter (λ k. is_owned owner k) (keys m)) ×
+    ((q : RrKey) → get key_cmp sets q ≡ cond (has_key q found) (get key_cmp m q) None) ×
+    All (λ e. get key_cmp m e.0 ≡ Some e.1) left
+
 abbrev pub invariant-loop-key : goal.invariant-loop-key
-invariant-loop-key l = (q : RrKey) → get key_cmp l.sets q ≡ cond (has_key q (take l.key-index l.keys))
-    (get key_cmp l.zone.sets q) None
+invariant-loop-key l = IsOpening l.owner l.zone.sets l.found.items l.sets l.key-iterator ×
+    goal.iterator-loop-key.can_next l.key-iterator × goal.iterator-loop-key.is_finite l.key-iterator

@@ -1,4 +1,3 @@
-use Rattle.base.specs.RrKey.{key_of}
 use Rattle.op_use.proofs.ChangingSteps.{held_as, kept_map, map_out, none_left, set_left, set_out}
 use Rattle.op_use.proofs.WholeSteps.{map_copy}
 use Rattle.op_use.proofs.apply.changing_zone.ChangingZone.take_data.Goals as goal
@@ -19,8 +18,7 @@ returns-in_default c =
     let i = c.self.inside in
     held_as c.in_ok-key.key (record_key c.args.entry.now) (without (c.args.entry.now ∷ []))
     (record { origin = i.origin.now; class = i.class; sets = i.sets }) c.args.self.now c.remove.new.self
-    (c.in_ok-key.ensures ∙ ap (key_of c.args.entry.now.name) c.record_type.ensures) c.self.view_is
-    (subst (λ xs. IsSetTo i.class c.in_ok-key.key xs i.sets c.remove.new.self)
+    c.in_ok-key.ensures c.self.view_is (subst (λ xs. IsSetTo i.class c.in_ok-key.key xs i.sets c.remove.new.self)
     (ap (λ o. without (c.args.entry.now ∷ []) (records_in o)) c.in_default.ensures.value)
     (set_out i.class c.in_ok-key.key i.sets c.remove.new.self c.remove.ensures.updates.0))
 
@@ -37,7 +35,7 @@ returns-then-records_count-eq0 c =
     let i = c.self.inside in
     held_as c.in_ok-key.key (record_key c.args.entry.now) (without (c.args.entry.now ∷ []))
     (record { origin = i.origin.now; class = i.class; sets = i.sets }) c.args.self.now c.remove.new.self
-    (c.in_ok-key.ensures ∙ ap (key_of c.args.entry.now.name) c.record_type.ensures) c.self.view_is
+    c.in_ok-key.ensures c.self.view_is
     (none_left i.class c.in_ok-key.key i.sets c.remove.new.self (c.args.entry.now ∷ []) c.in-Some.set c.in_ok-set.set
     (sym c.in-Some.ensures.value) c.in_ok-set.ensures
     (nil_from_length c.in_ok-set.set.records (sym c.records_count.ensures ∙ c.if-records_count-eq0.true))
@@ -69,7 +67,7 @@ returns c =
     let i = c.self.inside in
     held_as c.in_ok-key.key (record_key c.args.entry.now) (without (c.args.entry.now ∷ []))
     (record { origin = i.origin.now; class = i.class; sets = i.sets }) c.args.self.now c.insert.new.self
-    (c.in_ok-key.ensures ∙ ap (key_of c.args.entry.now.name) c.record_type.ensures) c.self.view_is
+    c.in_ok-key.ensures c.self.view_is
     (set_left i.class c.in_ok-key.key i.sets c.insert.new.self c.remove.new.self c.in_ok-set.set
     c.remove.ensures.updates.0 c.in_ok-insert.ensures.updates.0 (c.args.entry.now ∷ []) c.in-Some.set
     (c.self.invariant c.in_ok-key.key c.in-Some.set (sym c.in-Some.ensures.value)) (sym c.in-Some.ensures.value)

@@ -1,4 +1,4 @@
-use Rattle.base.specs.RrKey.{key_cmp, key_of}
+use Rattle.base.specs.RrKey.{key_cmp}
 use Rattle.op_use.proofs.MapZones.{set_at, types_at}
 use Rattle.op_use.proofs.TypeSteps.{any_is}
 use Rattle.op_use.proofs.apply.zone.Zone.is_found.Goals as goal
@@ -18,8 +18,7 @@ returns-then-eq c = subst (λ v. IfOk c.has_type.result (λ b. b ≡ v))
 
 pub returns : goal.returns
 returns c = c.contains_key.ensures
-    ∙ ap (λ k. is_some (get key_cmp c.self.inside.sets.now k))
-    (c.in_ok-key.ensures ∙ ap (key_of c.args.entry.now.name) c.record_type-2.ensures)
+    ∙ ap (λ k. is_some (get key_cmp c.self.inside.sets.now k)) c.in_ok-key.ensures
     ∙ sym (set_at c.self.inside.origin.now c.self.inside.class c.self.inside.sets.now _)
     ∙ sym (cond-false _ _ _ (ap is_any (sym c.record_type.ensures) ∙ any_is c.record_type.result ∙ sym c.eq.ensures
     ∙ c.if-eq.false))

@@ -1,4 +1,4 @@
-use Rattle.base.specs.RrKey.{key_cmp, key_of}
+use Rattle.base.specs.RrKey.{key_cmp}
 use Rattle.base_data.specs.declared.rdata.RData.{RData}
 use Rattle.op_use.proofs.KeySets.{one_lent}
 use Rattle.op_use.proofs.SettleSteps.{IsSettling, settling_added, settling_none, settling_replaced, settling_same}
@@ -18,15 +18,14 @@ pub loop-entry-preserved-in_default : goal.loop-entry-preserved-in_default
 loop-entry-preserved-in_default c = settling_none _ _ _
     (one_lent c.args.entries.now c.loop-entry.entry-index c.entry-item.result c.loop-entry-test.true c.entry-item.is)
     c.args.self.now.sets c.args.now c.loop-entry.now c.remove.new.self c.args.outcome.now c.loop-entry.outcome
-    c.in_ok-key.key (c.in_ok-key.ensures ∙ ap (key_of c.entry-item.result.now.name) c.record_type.ensures)
-    c.loop-entry.invariant c.remove.ensures.updates.0 c.requires.new (sym c.in_default.ensures.value)
+    c.in_ok-key.key c.in_ok-key.ensures c.loop-entry.invariant c.remove.ensures.updates.0 c.requires.new
+    (sym c.in_default.ensures.value)
 
 pub loop-entry-preserved-in_default-get : goal.loop-entry-preserved-in_default-get
 loop-entry-preserved-in_default-get c = settling_added _ _ _
     (one_lent c.args.entries.now c.loop-entry.entry-index c.entry-item.result c.loop-entry-test.true c.entry-item.is)
     c.args.self.now.sets c.args.now c.loop-entry.now c.remove.new.self c.args.outcome.now c.loop-entry.outcome
-    c.in_ok-key.key (c.in_ok-key.ensures ∙ ap (key_of c.entry-item.result.now.name) c.record_type.ensures)
-    c.loop-entry.invariant c.remove.ensures.updates.0 c.requires.new c.in_ok-set.set
+    c.in_ok-key.key c.in_ok-key.ensures c.loop-entry.invariant c.remove.ensures.updates.0 c.requires.new c.in_ok-set.set
     (sym c.in-Some.ensures.value ∙ ap Some (sym c.in_ok-set.ensures)) c.args.self.now.class
     (record c.loop-entry.outcome { added = c.push.new.self }) c.requires.fits
     (ap (λ (z : HeldZone). get key_cmp z.sets c.in_ok-key.key) (sym c.self.view_is)
@@ -36,8 +35,7 @@ pub loop-entry-preserved-then-are_same : goal.loop-entry-preserved-then-are_same
 loop-entry-preserved-then-are_same c = settling_same _ _ _
     (one_lent c.args.entries.now c.loop-entry.entry-index c.entry-item.result c.loop-entry-test.true c.entry-item.is)
     c.args.self.now.sets c.args.now c.loop-entry.now c.remove.new.self c.args.outcome.now c.loop-entry.outcome
-    c.in_ok-key.key (c.in_ok-key.ensures ∙ ap (key_of c.entry-item.result.now.name) c.record_type.ensures)
-    c.loop-entry.invariant c.remove.ensures.updates.0 c.requires.new c.in_ok-set.set
+    c.in_ok-key.key c.in_ok-key.ensures c.loop-entry.invariant c.remove.ensures.updates.0 c.requires.new c.in_ok-set.set
     (sym c.in-Some.ensures.value ∙ ap Some (sym c.in_ok-set.ensures)) c.in-Some-get.was.now
     (ap (λ (z : HeldZone). get key_cmp z.sets c.in_ok-key.key) (sym c.self.view_is) ∙ sym c.in-Some-get.ensures.value)
     (sym c.as_slice.ensures ∙ c.are_same.ensures.0 c.if-are_same.true ∙ c.as_slice-in-loop-entry.ensures)
@@ -46,8 +44,7 @@ pub loop-entry-preserved : goal.loop-entry-preserved
 loop-entry-preserved c = settling_replaced _ _ _
     (one_lent c.args.entries.now c.loop-entry.entry-index c.entry-item.result c.loop-entry-test.true c.entry-item.is)
     c.args.self.now.sets c.args.now c.loop-entry.now c.remove.new.self c.args.outcome.now c.loop-entry.outcome
-    c.in_ok-key.key (c.in_ok-key.ensures ∙ ap (key_of c.entry-item.result.now.name) c.record_type.ensures)
-    c.loop-entry.invariant c.remove.ensures.updates.0 c.requires.new c.in_ok-set.set
+    c.in_ok-key.key c.in_ok-key.ensures c.loop-entry.invariant c.remove.ensures.updates.0 c.requires.new c.in_ok-set.set
     (sym c.in-Some.ensures.value ∙ ap Some (sym c.in_ok-set.ensures)) c.in-Some-get.was.now
     (record c.loop-entry.outcome { replaced = c.push-in-loop-entry.new.self })
     (ap (λ (z : HeldZone). get key_cmp z.sets c.in_ok-key.key) (sym c.self.view_is) ∙ sym c.in-Some-get.ensures.value)
