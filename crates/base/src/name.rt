@@ -11,7 +11,7 @@ pub mod display;
 pub mod laws;
 pub mod name_of;
 pub mod parse;
-pub(crate) mod reading;
+mod reading;
 pub mod round_trip;
 mod writing;
 
