@@ -22,7 +22,7 @@ use crate::message::message_of;
 use crate::refusal::Refusal;
 use crate::zone::zone_asked;
 use authority::{Carrier, respond};
-use base::{DNSClass, LowerName, RecordType, RrKey};
+use base::{DNSClass, RecordType, RrKey};
 use handle::ZoneHandle;
 use held::HeldZone;
 use loose::Loose;
@@ -191,7 +191,7 @@ fn zone_of(alloc: Global, origin: &[u8], text: &[u8]) -> Result<HeldZone, Refusa
     if !are_sets_in(&sets) {
         return Err(Refusal::CLASS);
     }
-    let soa = RrKey::new(LowerName::new(alloc, &origin)?, RecordType::SOA);
+    let soa = RrKey::of(&origin, RecordType::SOA)?;
     Ok(HeldZone { origin, sets, soa })
 }
 
