@@ -5,27 +5,6 @@ use Rattle.std.proofs.lemmas.List.{drop_all, take-take, take-append-le, take-app
 use Rattle.std.proofs.lemmas.Slice.{drop-put_mid, take-put_mid}
 use borrow.Rule.Slice.PartMut.{put_mid}
 
--- as many of the first as xs has, and n more
-take_after : (xs ys : List ℕ) (k n : ℕ) → k ≡ length xs + n → take k (xs ++ ys) ≡ xs ++ take n ys
-take_after [] ys k n is = ap (λ (j : ℕ). take j ys) (omega arith)
-take_after (x ∷ xs) ys k n is =
-    let more : k ≡ suc (length xs + n) = omega arith in
-    ap (λ (j : ℕ). take j (x ∷ (xs ++ ys))) more
-    ∙ ap (λ (zs : List ℕ). x ∷ zs) (take_after xs ys (length xs + n) n (omega arith))
-
--- what a room begins with where as many bytes and more were copied after what is used of it
-pub copied_after : (xs room : List ℕ) {copied : List ℕ} {size piece used : ℕ} → used ≤ length room
-    → length copied ≡ piece → size ≤ piece → copied ≡ take piece xs
-    → take (used + size) (put_mid used (used + piece - used) room copied) ≡ take used room ++ take size xs
-copied_after xs room {copied} {size} {piece} {used} fits len few is =
-    let whole = put_mid used (used + piece - used) room copied in
-    let front = length-take used room in
-    sym (take-take (used + size) (used + piece) whole (omega arith))
-    ∙ ap (take (used + size)) (take-put_mid used (used + piece - used) room copied (used + piece) (omega arith) fits)
-    ∙ take_after (take used room) copied (used + size) size (omega arith)
-    ∙ ap (λ (ys : List ℕ). take used room ++ take size ys) is
-    ∙ ap (λ (ys : List ℕ). take used room ++ ys) (take-take size piece xs few)
-
 -- what a room begins with where the first piece of a list and its last one were copied, which are all of it
 pub copied_ends : (xs first rest last : List ℕ) (piece k : ℕ) → piece ≤ length xs → length xs ≤ piece + piece
     → first ≡ take piece xs → last ≡ drop (length xs - piece) xs

@@ -2,14 +2,14 @@
 pub mod CacheLemmas
 pub mod CountLemmas
 pub mod GatherLemmas
-pub mod GatheringLemmas
 pub mod ManyLemmas
+pub mod NameLemmas
 pub mod NamesLemmas
 pub mod PassLemmas
 pub mod PieceLemmas
 pub mod ReadLemmas
 pub mod ReadingLemmas
 pub mod SpellingLemmas
-pub mod TailLemmas
+pub mod TargetLemmas
 pub mod TrackLemmas
 pub mod WalkLemmas

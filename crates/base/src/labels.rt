@@ -114,6 +114,7 @@ impl Labels {
     /// # Errors
     ///
     /// If memory runs out.
+    #[inline(always)]
     pub(crate) fn from_front_and(
         alloc: Global,
         bytes: &[u8],

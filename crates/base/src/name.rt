@@ -11,7 +11,7 @@ pub mod display;
 pub mod laws;
 pub mod name_of;
 pub mod parse;
-mod reading;
+pub(crate) mod reading;
 pub mod round_trip;
 mod writing;
 

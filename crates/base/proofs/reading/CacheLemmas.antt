@@ -1,28 +1,29 @@
 -- The labels that a cache keeps by offset, where more are kept.
 use Rattle.std.proofs.Common.{◌≡◌, ◌≢◌, ℕ, zero, suc, ◌+◌, ◌-◌, ◌<◌, ◌≤◌, Bool, true, false, cond, List, [], ◌∷◌, ◌++◌}
 use Rattle.std.proofs.Common.{length, take, drop, append_assoc}
-use Rattle.std.proofs.Common.{Some, None, refl, ap, sym, ◌∙◌, subst, arith, length-append, length-drop, inl, inr}
-use Rattle.std.specs.Prelude.{All, Option, get_or, nat_eq, nat_lt, replicate, slice_set, ◌==◌}
+use Rattle.std.proofs.Common.{Some, None, refl, ap, sym, ◌∙◌, subst, arith, length-append, length-drop, length-take}
+use Rattle.std.proofs.Common.{inl, inr}
+use Rattle.std.specs.Prelude.{All, Option, option_map, unwrap_or, get_or, nat_eq, nat_lt, replicate, slice_set, ◌==◌}
 use Rattle.std.specs.Cmp.{nat_cmp_total, unsigned_tied}
 use Rattle.std.specs.FinMap as map
 use Rattle.std.specs.List.{slice_range}
 use Rattle.std.specs.Option.{option_or}
 use Rattle.std.specs.Ordering.{eq_by_cmp, nat_cmp}
-use Rattle.std.proofs.lemmas.Bool.{cases_Bool, cond-true, cond-false, eqb-true, eqb-false, eq-eqb, ne_eqb, false≢true}
+use Rattle.std.proofs.lemmas.Bool.{cases_Bool, cond-true, cond-false, eqb-true, eqb-false, eq-eqb, ne_eqb}
 use Rattle.std.proofs.lemmas.Bool.{ltb-true, ltb-false}
-use Rattle.std.proofs.lemmas.List.{drop-append-le, take-append-le, take_all, drop_all, drop-drop, get_or_append_left}
+use Rattle.std.proofs.lemmas.List.{drop-append-le, take-append-le, take_all, drop_all, drop-drop}
+use Rattle.std.proofs.lemmas.List.{get_or_append_left}
 use Rattle.std.proofs.lemmas.List.{get_or-append_right, get_or_past, get_or_default, get_or-set_same, get_or-set_other}
 use Rattle.std.proofs.lemmas.List.{length-set, map_push, take_more_set}
+use Rattle.std.proofs.lemmas.List.Elements.{All-push, All-weaker}
 use Rattle.std.proofs.lemmas.Slice.{take-put_mid}
 use borrow.Rule.Slice.PartMut.{put_mid}
 use Rattle.base.specs.declared.wire.pointer_cache.TargetLabels.{TargetLabels}
 use Rattle.base.specs.declared.wire.pointer_cache.TargetLabels.TheVariants.{Lent, Copied}
 use Rattle.base.specs.declared.wire.pointer_cache.Target.{Target}
-use Rattle.base.specs.declared.wire.pointer_cache.TheConstants.{ROOM}
-use Rattle.base.proofs.writing.LawLemmas.{none_is_not}
-use Rattle.base.specs.reading.Pointers.{AreThere, copied_bytes, IsInside, IsLonger, IsTargetThere, cache_of}
+use Rattle.base.specs.reading.Pointers.{AreThere, Cache, copied_bytes, IsInside, IsLonger, IsTargetThere, cache_of}
 use Rattle.base.specs.reading.Pointers.{entries_from, target_entries, target_labels, labels_from, labels_in, len_at}
-use Rattle.base.specs.reading.Pointers.{placed}
+use Rattle.base.specs.reading.Pointers.{kept_after, rest_labels}
 
 -- ---- a place whose labels are there keeps them, where more is copied after
 
@@ -30,18 +31,8 @@ before : (place : ℕ) (copied : List ℕ) → place ≢ 0 → place + len_at co
     → place - 1 < length copied
 before place copied some inside = grind (arith, some, inside)
 
-some_labels : (copied : List ℕ) (place : ℕ) → place ≢ 0 → labels_in copied place ≡ Some (labels_from copied place)
+pub some_labels : (copied : List ℕ) (place : ℕ) → place ≢ 0 → labels_in copied place ≡ Some (labels_from copied place)
 some_labels copied place some = cond-false (place == 0) _ _ (ne_eqb place 0 some)
-
--- the labels at a place where some are found
-pub found_there : (copied : List ℕ) (place : ℕ) (labels : List ℕ) → labels_in copied place ≡ Some labels
-    → labels_from copied place ≡ labels
-found_there copied place labels is = elim (cases_Bool (place == 0)) [
-  | inl none ↦ absurd (none_is_not labels (sym (cond-true (place == 0) None _ none) ∙ is))
-  | inr some ↦ some_is _ _ (sym (some_labels copied place (eqb-false place 0 some)) ∙ is)
-] where
-  some_is : (xs ys : List ℕ) → ◌≡◌ {A = Option (List ℕ)} (Some xs) (Some ys) → xs ≡ ys
-  some_is xs ys is = cc
 
 len_stays : (copied more : List ℕ) (place : ℕ) → place ≢ 0 → IsInside copied place
     → len_at (copied ++ more) place ≡ len_at copied place
@@ -64,19 +55,11 @@ from_stays copied more place some inside =
     ∙ ap (λ (xs : List ℕ). take (place + n - place) xs) at
     ∙ take-append-le (place + n - place) (drop place copied) more len_is
 
-labels_stay : (copied more : List ℕ) (place : ℕ) → IsInside copied place
-    → labels_in (copied ++ more) place ≡ labels_in copied place
-labels_stay copied more place inside = elim (cases_Bool (place == 0)) [
-  | inl none ↦ ap (labels_in (copied ++ more)) (eqb-true place 0 none)
-      ∙ ap (labels_in copied) (sym (eqb-true place 0 none))
-  | inr some ↦
-      let place_is : place ≢ 0 = eqb-false place 0 some in
-      some_labels (copied ++ more) place place_is
-      ∙ ap (λ (xs : List ℕ). Some xs) (from_stays copied more place place_is inside)
-      ∙ sym (some_labels copied place place_is)
-]
-
 module _ (copied more : List ℕ) where
+  pub there_stays : (labels : TargetLabels) → AreThere copied labels → AreThere (copied ++ more) labels
+  there_stays (Lent labels) there = there
+  there_stays (Copied place) there = (there.0, inside_stays copied more place there.1)
+
   pub at_stay : (labels : TargetLabels) → AreThere copied labels
       → target_labels (copied ++ more) labels ≡ target_labels copied labels
   at_stay (Lent labels) there = refl
@@ -105,10 +88,10 @@ module _ (copied more : List ℕ) where
   pub cache_stays : (others : List ℕ) (first : List Target) → All (IsInside copied) others
       → All (IsTargetThere copied) first → cache_of (copied ++ more) others first ≡ cache_of copied others first
   cache_stays others first inside there =
-      ap (λ (es : List (ℕ × List ℕ)). map.from_entries (es ++ entries_from 0 (copied ++ more) others))
-      (entries_of_stay first there)
-      ∙ ap (λ (es : List (ℕ × List ℕ)). map.from_entries (target_entries copied first ++ es))
+      ap (λ (es : List (ℕ × List ℕ)). map.from_entries (es ++ target_entries (copied ++ more) first))
       (entries_from_stay 0 others inside)
+      ∙ ap (λ (es : List (ℕ × List ℕ)). map.from_entries (entries_from 0 copied others ++ es))
+      (entries_of_stay first there)
 
 -- ---- what is copied after the others
 
@@ -143,17 +126,36 @@ module _ (copied labels : List ℕ) where
   pub new_inside : IsInside whole (length copied + 1)
   new_inside some = omega (arith, new_len, length-append copied (length labels ∷ labels))
 
--- labels that are copied inside the value, where nothing is on the heap
-pub copied_inside : (used k : ℕ) (first labels all copied : List ℕ) → length all ≡ 0
-    → used + 1 + length labels ≤ length first → copied ≡ labels
-    → copied_bytes (used + 1 + length labels) (put_mid (used + 1) k (slice_set first used (length labels)) copied) all
-    ≡ copied_bytes used first all ++ (length labels ∷ labels)
-copied_inside used k first labels (b ∷ bs) copied none fits is = absurd (omega (arith, none))
-copied_inside used k first labels [] copied none fits is = rw is
-    (take-put_mid (used + 1) k (slice_set first used (length labels)) labels (used + 1 + length labels) refl
-    (omega (arith, fits, length-set first used (length labels)))
-    ∙ ap (λ (xs : List ℕ). xs ++ labels) (take_more_set first used (length labels) (omega (arith, fits)))
-    ∙ append_assoc (take used first) (length labels ∷ []) labels)
+same_parts : (front own rest : List ℕ) (len : ℕ) → length own + length rest ≡ len
+    → ((front ++ len ∷ []) ++ own) ++ rest ≡ front ++ (length (own ++ rest) ∷ (own ++ rest))
+same_parts front own rest len is =
+    let all : len ≡ length (own ++ rest) = omega (arith, length-append own rest) in
+    ap (λ (n : ℕ). ((front ++ n ∷ []) ++ own) ++ rest) all
+    ∙ append_assoc (front ++ length (own ++ rest) ∷ []) own rest ∙ append_assoc front (length (own ++ rest) ∷ []) _
+
+-- labels that are copied inside the value in two parts, where nothing is on the heap
+pub copied_inside : (used j k : ℕ) (first own rest all owned rested : List ℕ) → length all ≡ 0
+    → used + 1 + length own + length rest ≤ length first → owned ≡ own → rested ≡ rest
+    → copied_bytes (used + 1 + (length own + length rest)) (put_mid (used + 1 + length own) j
+    (put_mid (used + 1) k (slice_set first used (length own + length rest)) owned) rested) all
+    ≡ copied_bytes used first all ++ (length (own ++ rest) ∷ (own ++ rest))
+copied_inside used j k first own rest (b ∷ bs) owned rested none fits is also = absurd (omega (arith, none))
+copied_inside used j k first own rest [] owned rested none fits is also = rw (is, also)
+    (let len = length own + length rest in
+    let one = slice_set first used len in
+    take-put_mid (used + 1 + length own) j (put_mid (used + 1) k one own) rest (used + 1 + len) (omega arith)
+    (omega (
+      arith,
+      fits,
+      length-append (take (used + 1) one) (own ++ drop k (drop (used + 1) one)),
+      length-append own (drop k (drop (used + 1) one)),
+      length-take (used + 1) one,
+      length-set first used len,
+    ))
+    ∙ ap (λ (xs : List ℕ). xs ++ rest) (take-put_mid (used + 1) k one own (used + 1 + length own) refl
+    (omega (arith, fits, length-set first used len)))
+    ∙ ap (λ (xs : List ℕ). (xs ++ own) ++ rest) (take_more_set first used len (omega (arith, fits)))
+    ∙ same_parts (take used first) own rest len refl)
 
 -- ---- the places by offset, one of them new
 
@@ -161,15 +163,6 @@ inside_or : (copied places : List ℕ) → All (IsInside copied) places → (q :
 inside_or copied places all q = elim (cases_Bool (nat_lt q (length places))) [
   | inl inside ↦ all q 0 (ltb-true q (length places) inside)
   | inr past ↦ λ some. absurd (some (get_or_past places q 0 (ltb-false q (length places) past)))
-]
-
--- the place of an offset where some labels are found
-pub place_of : (copied places : List ℕ) (q place : ℕ) (labels : List ℕ) → placed copied places q ≡ Some labels
-    → place ≡ get_or places q place → place ≡ get_or places q 0
-place_of copied places q place labels is at = elim (cases_Bool (nat_lt q (length places))) [
-  | inl inside ↦ at ∙ sym (get_or_default places q 0 place (ltb-true q (length places) inside))
-  | inr past ↦ absurd (none_is_not labels (sym
-      (ap (labels_in copied) (get_or_past places q 0 (ltb-false q (length places) past))) ∙ is))
 ]
 
 -- places of 0 after the others are no places
@@ -181,36 +174,6 @@ zeros_after [] m q = zeros m q where
   zeros (suc m) (suc i) = zeros m i
 zeros_after (p ∷ places) m zero = refl
 zeros_after (p ∷ places) m (suc q) = zeros_after places m q
-
--- The places by offset, one after the copied labels at one offset and those from before at all others.
-pub record IsPut (copied old new : List ℕ) (t : ℕ) : Type 0 where
-  pub here : get_or new t 0 ≡ length copied + 1
-  pub others : (q : ℕ) → q ≢ t → get_or new q 0 ≡ get_or old q 0
-
--- places with no labels among them, and then the new one
-pub is_put : (copied old reached : List ℕ) (t place : ℕ) → ((q : ℕ) → get_or reached q 0 ≡ get_or old q 0)
-    → t < length reached → place ≡ length copied + 1
-    → IsPut copied old (slice_set reached t place) t
-is_put copied old reached t place same there place_is = record {
-  here = get_or-set_same reached t place 0 there ∙ place_is;
-  others = λ q other. get_or-set_other reached t q place 0 other ∙ same q;
-}
-
-module _ (copied labels old new : List ℕ) (t : ℕ) (put : IsPut copied old new t) (all : All (IsInside copied) old) where
-  abbrev now : List ℕ
-  now = copied ++ (length labels ∷ labels)
-
-  pub put_others : (q : ℕ) → q ≢ t → labels_in now (get_or new q 0) ≡ labels_in copied (get_or old q 0)
-  put_others q other = ap (labels_in now) (put.others q other)
-      ∙ labels_stay copied (length labels ∷ labels) (get_or old q 0) (inside_or copied old all q)
-
-  pub put_inside : All (IsInside now) new
-  put_inside k d inside = subst (IsInside now) (get_or_default new k 0 d inside) (elim (cases_Bool (nat_eq k t)) [
-    | inl same ↦ subst (IsInside now) (sym (ap (λ (i : ℕ). get_or new i 0) (eqb-true k t same) ∙ put.here))
-        (new_inside copied labels)
-    | inr differ ↦ subst (IsInside now) (sym (put.others k (λ equal. false≢true (sym differ ∙ eq-eqb k t equal))))
-        (inside_stays copied (length labels ∷ labels) (get_or old k 0) (inside_or copied old all k))
-  ])
 
 -- ---- what is found at an offset
 
@@ -240,7 +203,7 @@ none_before t copied (suc n ∷ places) q less =
     cond-false (eq_by_cmp nat_cmp q t) _ _ (not_tied q t (λ same. omega (arith, same, less)))
     ∙ none_before (suc t) copied places q (omega (arith, less))
 
-found_from : (t : ℕ) (copied places : List ℕ) (k : ℕ)
+pub found_from : (t : ℕ) (copied places : List ℕ) (k : ℕ)
     → map.find nat_cmp (t + k) (entries_from t copied places) ≡ labels_in copied (get_or places k 0)
 found_from t copied [] k = refl
 found_from t copied (zero ∷ places) zero = none_before (suc t) copied places (t + zero) (omega arith)
@@ -255,15 +218,15 @@ found_from t copied (suc n ∷ places) (suc k) =
     cond-false (eq_by_cmp nat_cmp (t + suc k) t) _ _ (not_tied (t + suc k) t (λ same. omega (arith, same)))
     ∙ ap (λ (q : ℕ). map.find nat_cmp q (entries_from (suc t) copied places)) next ∙ found_from (suc t) copied places k
 
--- among the first targets, and else by its place
+-- by its place, and else among the first targets
 pub get_cache : (copied others : List ℕ) (first : List Target) (q : ℕ)
-    → map.get (cache_of copied others first) q ≡ option_or (map.find nat_cmp q (target_entries copied first))
-    (labels_in copied (get_or others q 0))
+    → map.get (cache_of copied others first) q ≡ option_or (labels_in copied (get_or others q 0))
+    (map.find nat_cmp q (target_entries copied first))
 get_cache copied others first q =
     let at : q ≡ 0 + q = omega arith in
-    map.get-from_entries nat_cmp_total (target_entries copied first ++ entries_from 0 copied others) q
-    ∙ find_both (target_entries copied first) (entries_from 0 copied others) q
-    ∙ ap (λ (o : Option (List ℕ)). option_or (map.find nat_cmp q (target_entries copied first)) o)
+    map.get-from_entries nat_cmp_total (entries_from 0 copied others ++ target_entries copied first) q
+    ∙ find_both (entries_from 0 copied others) (target_entries copied first) q
+    ∙ ap (λ (o : Option (List ℕ)). option_or o (map.find nat_cmp q (target_entries copied first)))
     (ap (λ (k : ℕ). map.find nat_cmp k (entries_from 0 copied others)) at ∙ found_from 0 copied others q)
 
 -- ---- one target more
@@ -271,228 +234,159 @@ get_cache copied others first q =
 same_cache : (a b : map.FinMap nat_cmp (List ℕ)) → ((q : ℕ) → map.get a q ≡ map.get b q) → a ≡ b
 same_cache = map.same_map nat_cmp_total map.nat_cmp-IsAntisymmetric
 
--- caches where the same is found
-pub same_found : (copied now others others' : List ℕ) (first first' : List Target)
-    → ((q : ℕ) → option_or (map.find nat_cmp q (target_entries now first')) (labels_in now (get_or others' q 0))
-    ≡ option_or (map.find nat_cmp q (target_entries copied first)) (labels_in copied (get_or others q 0)))
-    → cache_of now others' first' ≡ cache_of copied others first
-same_found copied now others others' first first' same =
-    same_cache _ _ (λ q. get_cache now others' first' q ∙ same q ∙ sym (get_cache copied others first q))
-
--- caches where no target has a place
-pub no_places : (copied now others others' : List ℕ) (first : List Target) → others ≡ [] → others' ≡ []
-    → target_entries now first ≡ target_entries copied first
-    → cache_of now others' first ≡ cache_of copied others first
-no_places copied now others others' first none none' same =
-    rw (none, none') (ap (λ (es : List (ℕ × List ℕ)). map.from_entries {R = nat_cmp} (es ++ [])) same)
+-- where each offset has the place that it had
+pub same_places : (copied old new : List ℕ) (first : List Target) → ((q : ℕ) → get_or new q 0 ≡ get_or old q 0)
+    → cache_of copied new first ≡ cache_of copied old first
+same_places copied old new first same = same_cache _ _ (λ q.
+    get_cache copied new first q
+    ∙ ap (λ (p : ℕ). option_or (labels_in copied p) (map.find nat_cmp q (target_entries copied first))) (same q)
+    ∙ sym (get_cache copied old first q))
 
 pub same_inside : (copied old new : List ℕ) → ((q : ℕ) → get_or new q 0 ≡ get_or old q 0) → All (IsInside copied) old
     → All (IsInside copied) new
 same_inside copied old new same all k d inside =
     subst (IsInside copied) (sym (same k) ∙ get_or_default new k 0 d inside) (inside_or copied old all k)
 
-none_of : {X : Type 0} (o p : Option X) → option_or o p ≡ None → o ≡ None
-none_of None p none = refl
-none_of (Some x) p none = none
-
-pub or_none : {X : Type 0} (o : Option X) → option_or o None ≡ o
+or_none : {X : Type 0} (o : Option X) → option_or o None ≡ o
 or_none None = refl
 or_none (Some x) = refl
 
-module _ (copied others : List ℕ) (first : List Target) (t : ℕ)
-    (none : map.get (cache_of copied others first) t ≡ None) where
-  not_first : map.find nat_cmp t (target_entries copied first) ≡ None
-  not_first = none_of _ (labels_in copied (get_or others t 0)) (sym (get_cache copied others first t) ∙ none)
+or_both : {X : Type 0} (o p r : Option X) → option_or o (option_or p r) ≡ option_or (option_or o p) r
+or_both None p r = refl
+or_both (Some x) p r = refl
 
-  -- what is found with one more, which is new
-  one_found : (labels : List ℕ) (o : ℕ → Option (List ℕ)) (q : ℕ)
-      → (q ≡ t → o q ≡ Some labels) → (q ≢ t → o q ≡ map.get (cache_of copied others first) q)
-      → o q ≡ map.get (map.insert (cache_of copied others first) t labels) q
-  one_found labels o q here other = elim (cases_Bool (nat_eq q t)) [
-    | inl same ↦
-        let equal : q ≡ t = eqb-true q t same in
-        here equal ∙ sym (cond-true (eq_by_cmp nat_cmp q t) (Some labels) _ (tied q t equal))
-        ∙ sym (map.get-insert nat_cmp_total (cache_of copied others first) t labels q)
-    | inr differ ↦
-        let apart : q ≢ t = eqb-false q t differ in
-        other apart ∙ sym (cond-false (eq_by_cmp nat_cmp q t) (Some labels) _ (not_tied q t apart))
-        ∙ sym (map.get-insert nat_cmp_total (cache_of copied others first) t labels q)
-  ]
-
-  -- one more among the first
-  pub first_more : (labels : TargetLabels) → cache_of copied others
-      (first ++ record { offset = t; labels = labels } ∷ []) ≡ map.insert (cache_of copied others first) t
-      (target_labels copied labels)
-  first_more labels = same_cache _ _ (λ q. one_found (target_labels copied labels)
-      (λ k. map.get (cache_of copied others (first ++ record { offset = t; labels = labels } ∷ [])) k) q (here q)
-      (other q)) where
-        pushed : (q : ℕ) → map.get (cache_of copied others (first ++ record { offset = t; labels = labels } ∷ [])) q
-            ≡ option_or (option_or (map.find nat_cmp q (target_entries copied first))
-            (cond (eq_by_cmp nat_cmp q t) (Some (target_labels copied labels)) None))
-            (labels_in copied (get_or others q 0))
-        pushed q =
-            let entry : Target → ℕ × List ℕ = λ x. (x.offset, target_labels copied x.labels) in
-            get_cache copied others (first ++ record { offset = t; labels = labels } ∷ []) q
-            ∙ ap (λ (es : List (ℕ × List ℕ)). option_or (map.find nat_cmp q es) (labels_in copied (get_or others q 0)))
-            (map_push entry first (record { offset = t; labels = labels }))
-            ∙ ap (λ (o : Option (List ℕ)). option_or o (labels_in copied (get_or others q 0)))
-            (find_both (target_entries copied first) ((t, target_labels copied labels) ∷ []) q)
-
-        here : (q : ℕ) → q ≡ t → map.get (cache_of copied others (first ++ record { offset = t; labels = labels } ∷ []))
-            q
-            ≡ Some (target_labels copied labels)
-        here q same =
-            pushed q
-            ∙ ap (λ (o : Option (List ℕ)). option_or (option_or o
-            (cond (eq_by_cmp nat_cmp q t) (Some (target_labels copied labels)) None))
-            (labels_in copied (get_or others q 0)))
-            (ap (λ (k : ℕ). map.find nat_cmp k (target_entries copied first)) same ∙ not_first)
-            ∙ ap (λ (b : Bool). option_or (cond b (Some (target_labels copied labels)) None)
-            (labels_in copied (get_or others q 0))) (tied q t same)
-
-        other : (q : ℕ) → q ≢ t → map.get (cache_of copied others
-            (first ++ record { offset = t; labels = labels } ∷ [])) q
-            ≡ map.get (cache_of copied others first) q
-        other q apart =
-            pushed q
-            ∙ ap (λ (b : Bool). option_or (option_or (map.find nat_cmp q (target_entries copied first))
-            (cond b (Some (target_labels copied labels)) None)) (labels_in copied (get_or others q 0)))
-            (not_tied q t apart)
-            ∙ ap (λ (o : Option (List ℕ)). option_or o (labels_in copied (get_or others q 0)))
-            (or_none (map.find nat_cmp q (target_entries copied first)))
-            ∙ sym (get_cache copied others first q)
-
-  -- one more that has a place
-  pub others_more : (now new : List ℕ) (labels : List ℕ) → target_entries now first ≡ target_entries copied first
-      → labels_in now (get_or new t 0) ≡ Some labels
-      → ((q : ℕ) → q ≢ t → labels_in now (get_or new q 0) ≡ labels_in copied (get_or others q 0))
-      → cache_of now new first ≡ map.insert (cache_of copied others first) t labels
-  others_more now new labels stay put rest =
-      same_cache _ _ (λ q. one_found labels (λ k. map.get (cache_of now new first) k) q (here q) (other q)) where
-        at : (q : ℕ) → map.get (cache_of now new first) q ≡ option_or (map.find nat_cmp q (target_entries copied first))
-            (labels_in now (get_or new q 0))
-        at q = get_cache now new first q ∙ ap (λ (es : List (ℕ × List ℕ)). option_or (map.find nat_cmp q es)
-            (labels_in now (get_or new q 0))) stay
-
-        here : (q : ℕ) → q ≡ t → map.get (cache_of now new first) q ≡ Some labels
-        here q same =
-            at q
-            ∙ ap (λ (o : Option (List ℕ)). option_or o (labels_in now (get_or new q 0)))
-            (ap (λ (k : ℕ). map.find nat_cmp k (target_entries copied first)) same ∙ not_first)
-            ∙ ap (λ (k : ℕ). labels_in now (get_or new k 0)) same ∙ put
-
-        other : (q : ℕ) → q ≢ t → map.get (cache_of now new first) q ≡ map.get (cache_of copied others first) q
-        other q apart =
-            at q ∙ ap (λ (o : Option (List ℕ)). option_or (map.find nat_cmp q (target_entries copied first)) o)
-            (rest q apart)
-            ∙ sym (get_cache copied others first q)
-
--- ---- one more among the first, in an array that has room
-
-module _ (copied others : List ℕ) (first : List Target) (count offset : ℕ) (less : count < ROOM)
-    (room : length first ≡ ROOM)
-    (none : map.get (cache_of copied others (take count first)) offset ≡ None) where
-  set_more : (one : Target) → take (count + 1) (slice_set first count one) ≡ take count first ++ one ∷ []
-  set_more one = take_more_set first count one (omega (arith, less, room))
-
-  -- its labels are lent or copied already
-  pub first_set : (labels : TargetLabels) → cache_of copied others
-      (take (count + 1) (slice_set first count (record { offset = offset; labels = labels })))
-      ≡ map.insert (cache_of copied others (take count first)) offset (target_labels copied labels)
-  first_set labels =
-      let one : Target = record { offset = offset; labels = labels } in
-      ap (cache_of copied others) (set_more one) ∙ first_more copied others (take count first) offset none labels
-
--- its labels are copied after the others
-pub copied_set : (copied labels others : List ℕ) (first : List Target) (count offset : ℕ) → count < ROOM
-    → length first ≡ ROOM → map.get (cache_of copied others (take count first)) offset ≡ None
-    → All (IsInside copied) others → All (IsTargetThere copied) (take count first)
-    → cache_of (copied ++ (length labels ∷ labels)) others
-    (take (count + 1) (slice_set first count (record { offset = offset; labels = Copied (length copied + 1) })))
-    ≡ map.insert (cache_of copied others (take count first)) offset labels
-copied_set copied labels others first count offset less room none inside there =
-    let whole = copied ++ (length labels ∷ labels) in
-    let stays = cache_stays copied (length labels ∷ labels) others (take count first) inside there in
-    first_set whole others first count offset less room
-    (ap (λ (m : map.FinMap nat_cmp (List ℕ)). map.get m offset) stays ∙ none) (Copied (length copied + 1))
-    ∙ ap (λ (xs : List ℕ). map.insert (cache_of whole others (take count first)) offset xs) (new_from copied labels)
-    ∙ ap (λ (m : map.FinMap nat_cmp (List ℕ)). map.insert m offset labels) stays
-
--- ---- more labels that are copied
-
-pub longer_both : {a b c : List ℕ} → IsLonger a b → IsLonger b c → IsLonger a c
-longer_both {a} {b} {c} first second = record {
-  more = first.more ++ second.more;
-  is = second.is ∙ ap (λ (xs : List ℕ). xs ++ second.more) first.is ∙ append_assoc a first.more second.more;
-}
-
-module _ {copied now : List ℕ} (longer : IsLonger copied now) where
-  pub longer_at : (labels : TargetLabels) → AreThere copied labels
-      → target_labels now labels ≡ target_labels copied labels
-  longer_at labels there = ap (λ (xs : List ℕ). target_labels xs labels) longer.is
-      ∙ at_stay copied longer.more labels there
-
-  pub longer_entries : (targets : List Target) → All (IsTargetThere copied) targets
-      → target_entries now targets ≡ target_entries copied targets
-  longer_entries targets there = ap (λ (xs : List ℕ). target_entries xs targets) longer.is
-      ∙ entries_of_stay copied longer.more targets there
-
--- ---- targets that get places
-
--- labels that were copied before get a place
-module _ (copied old reached : List ℕ) (t place : ℕ) (same : (q : ℕ) → get_or reached q 0 ≡ get_or old q 0)
-    (there : t < length reached)
-    (some : place ≢ 0) (inside : IsInside copied place) (all : All (IsInside copied) old) where
-  pub set_others : (q : ℕ) → q ≢ t → placed copied (slice_set reached t place) q ≡ placed copied old q
-  set_others q other = ap (labels_in copied) (get_or-set_other reached t q place 0 other ∙ same q)
-
-  pub set_inside : All (IsInside copied) (slice_set reached t place)
-  set_inside k d less = subst (IsInside copied) (get_or_default (slice_set reached t place) k 0 d less)
-      (elim (cases_Bool (nat_eq k t)) [
-        | inl equal ↦ subst (IsInside copied) (sym
-            (ap (λ (i : ℕ). get_or (slice_set reached t place) i 0) (eqb-true k t equal)
-            ∙ get_or-set_same reached t place 0 there)) inside
-        | inr differ ↦ subst (IsInside copied) (sym
-            (get_or-set_other reached t k place 0 (eqb-false k t differ) ∙ same k))
-            (inside_or copied old all k)
-      ])
-
--- one target more has its place
-pub one_placed : (copied : List ℕ) (target : Target) (rest : List Target) (old now before : ℕ → Option (List ℕ))
-    → ((q : ℕ) → old q ≡ option_or (map.find nat_cmp q (target_entries copied rest)) (before q))
-    → now target.offset ≡ Some (target_labels copied target.labels) → ((q : ℕ) → q ≢ target.offset → now q ≡ old q)
-    → (q : ℕ) → now q ≡ option_or (map.find nat_cmp q (target_entries copied (target ∷ rest))) (before q)
-one_placed copied target rest old now before was here others q = elim (cases_Bool (nat_eq q target.offset)) [
+-- with one more, which is new
+one_found : (cache now : map.FinMap nat_cmp (List ℕ)) (t : ℕ) (labels : List ℕ) → map.get now t ≡ Some labels
+    → ((q : ℕ) → q ≢ t → map.get now q ≡ map.get cache q) → now ≡ map.insert cache t labels
+one_found cache now t labels here other = same_cache _ _ (λ q. elim (cases_Bool (nat_eq q t)) [
   | inl same ↦
-      let equal : q ≡ target.offset = eqb-true q target.offset same in
-      ap now equal ∙ here ∙ sym (ap (λ (o : Option (List ℕ)). option_or o (before q))
-      (cond-true (eq_by_cmp nat_cmp q target.offset) (Some (target_labels copied target.labels)) _
-      (tied q target.offset equal)))
+      let equal : q ≡ t = eqb-true q t same in
+      ap (map.get now) equal ∙ here ∙ sym (cond-true (eq_by_cmp nat_cmp q t) (Some labels) _ (tied q t equal))
+      ∙ sym (map.get-insert nat_cmp_total cache t labels q)
   | inr differ ↦
-      let apart : q ≢ target.offset = eqb-false q target.offset differ in
-      others q apart ∙ was q
-      ∙ sym (ap (λ (o : Option (List ℕ)). option_or o (before q))
-      (cond-false (eq_by_cmp nat_cmp q target.offset) (Some (target_labels copied target.labels)) _
-      (not_tied q target.offset apart)))
-]
+      let apart : q ≢ t = eqb-false q t differ in
+      other q apart ∙ sym (cond-false (eq_by_cmp nat_cmp q t) (Some labels) _ (not_tied q t apart))
+      ∙ sym (map.get-insert nat_cmp_total cache t labels q)
+])
 
-or_again : {X : Type 0} (o p : Option X) → option_or o (option_or o p) ≡ option_or o p
-or_again None p = refl
-or_again (Some x) p = refl
+-- one more among the first
+pub first_more : (copied others : List ℕ) (first : List Target) (t : ℕ) (labels : TargetLabels)
+    → map.get (cache_of copied others first) t ≡ None
+    → cache_of copied others (first ++ record { offset = t; labels = labels } ∷ [])
+    ≡ map.insert (cache_of copied others first) t (target_labels copied labels)
+first_more copied others first t labels none =
+    let cache = cache_of copied others first in
+    let xs = target_labels copied labels in
+    let one : Target = record { offset = t; labels = labels } in
+    let entry : Target → ℕ × List ℕ = λ x. (x.offset, target_labels copied x.labels) in
+    let at : (q : ℕ) → map.get (cache_of copied others (first ++ one ∷ [])) q
+    ≡ option_or (map.get cache q) (cond (eq_by_cmp nat_cmp q t) (Some xs) None) =
+    λ q. get_cache copied others (first ++ one ∷ []) q
+    ∙ ap (λ (es : List (ℕ × List ℕ)). option_or (labels_in copied (get_or others q 0)) (map.find nat_cmp q es))
+    (map_push entry first one)
+    ∙ ap (λ (o : Option (List ℕ)). option_or (labels_in copied (get_or others q 0)) o)
+    (find_both (target_entries copied first) ((t, xs) ∷ []) q)
+    ∙ or_both (labels_in copied (get_or others q 0)) (map.find nat_cmp q (target_entries copied first)) _
+    ∙ ap (λ (o : Option (List ℕ)). option_or o (cond (eq_by_cmp nat_cmp q t) (Some xs) None))
+    (sym (get_cache copied others first q)) in
+    one_found cache _ t xs
+    (at t ∙ ap (λ (o : Option (List ℕ)). option_or o (cond (eq_by_cmp nat_cmp t t) (Some xs) None)) none
+    ∙ cond-true (eq_by_cmp nat_cmp t t) (Some xs) None (tied t t refl))
+    (λ q apart. at q ∙ ap (λ (o : Option (List ℕ)). option_or (map.get cache q) o)
+    (cond-false (eq_by_cmp nat_cmp q t) (Some xs) None (not_tied q t apart)) ∙ or_none (map.get cache q))
 
-tied_or : {X : Type 0} (b : Bool) (x : X) (o p r : Option X) → option_or o (option_or p r) ≡ option_or o r
-    → option_or (cond b (Some x) o) (option_or p r) ≡ option_or (cond b (Some x) o) r
-tied_or true x o p r same = refl
-tied_or false x o p r same = same
+-- one more that has a place
+pub place_more : (copied others : List ℕ) (first : List Target) (t place : ℕ) → t < length others → place ≢ 0
+    → cache_of copied (slice_set others t place) first
+    ≡ map.insert (cache_of copied others first) t (labels_from copied place)
+place_more copied others first t place there some =
+    let new = slice_set others t place in
+    let among : ℕ → Option (List ℕ) = λ q. map.find nat_cmp q (target_entries copied first) in
+    one_found (cache_of copied others first) _ t (labels_from copied place)
+    (get_cache copied new first t
+    ∙ ap (λ (p : ℕ). option_or (labels_in copied p) (among t)) (get_or-set_same others t place 0 there)
+    ∙ ap (λ (o : Option (List ℕ)). option_or o (among t)) (some_labels copied place some))
+    (λ q apart. get_cache copied new first q
+    ∙ ap (λ (p : ℕ). option_or (labels_in copied p) (among q)) (get_or-set_other others t q place 0 apart)
+    ∙ sym (get_cache copied others first q))
 
--- among targets nothing else is found where some of them have places too
-pub found_again : (copied : List ℕ) (targets : List Target) (i q : ℕ) (r : Option (List ℕ))
-    → option_or (map.find nat_cmp q (target_entries copied targets))
-    (option_or (map.find nat_cmp q (target_entries copied (drop i targets))) r) ≡ option_or
-    (map.find nat_cmp q (target_entries copied targets)) r
-found_again copied targets zero q r = or_again (map.find nat_cmp q (target_entries copied targets)) r
-found_again copied [] (suc i) q r = refl
-found_again copied (t ∷ ts) (suc i) q r =
-    tied_or (eq_by_cmp nat_cmp q t.offset) (target_labels copied t.labels)
-    (map.find nat_cmp q (target_entries copied ts)) (map.find nat_cmp q (target_entries copied (drop i ts))) r
-    (found_again copied ts i q r)
+pub set_inside : (copied others : List ℕ) (t place : ℕ) → t < length others → IsInside copied place
+    → All (IsInside copied) others → All (IsInside copied) (slice_set others t place)
+set_inside copied others t place there inside all k d less =
+    subst (IsInside copied) (get_or_default (slice_set others t place) k 0 d less)
+    (elim (cases_Bool (nat_eq k t)) [
+      | inl equal ↦ subst (IsInside copied) (sym (ap (λ (i : ℕ). get_or (slice_set others t place) i 0)
+          (eqb-true k t equal) ∙ get_or-set_same others t place 0 there)) inside
+      | inr differ ↦ subst (IsInside copied) (sym (get_or-set_other others t k place 0 (eqb-false k t differ)))
+          (inside_or copied others all k)
+    ])
+
+-- ---- a cache by its parts
+
+-- these are the parts of a cache
+pub record IsMade (cache : Cache) (copied places : List ℕ) (first : List Target) : Type 0 where
+  pub view : cache_of copied places first ≡ cache
+  pub are : All (IsInside copied) places × All (IsTargetThere copied) first
+
+module _ {cache : Cache} {copied places : List ℕ} {first : List Target} (made : IsMade cache copied places first) where
+  -- each offset has the place that it had
+  pub made_reach : {new : List ℕ} → ((q : ℕ) → get_or new q 0 ≡ get_or places q 0) → IsMade cache copied new first
+  made_reach {new} same = record {
+    view = same_places copied places new first same ∙ made.view;
+    are = (same_inside copied places new same made.are.0, made.are.1);
+  }
+
+  -- more is copied
+  pub made_longer : {now : List ℕ} → IsLonger copied now → IsMade cache now places first
+  made_longer longer = rw longer.is (record {
+    view = cache_stays copied longer.more places first made.are.0 made.are.1 ∙ made.view;
+    are = (
+      All-weaker (IsInside copied) (IsInside (copied ++ longer.more))
+          (λ p is. inside_stays copied longer.more p is) places made.are.0,
+      All-weaker (IsTargetThere copied) (IsTargetThere (copied ++ longer.more))
+          (λ t is. there_stays copied longer.more t.labels is) first made.are.1,
+    );
+  })
+
+  none_at : (t : ℕ) → map.get cache t ≡ None → map.get (cache_of copied places first) t ≡ None
+  none_at t none = ap (λ (m : Cache). map.get m t) made.view ∙ none
+
+  -- one more has a place
+  pub made_place : (t place : ℕ) → t < length places → AreThere copied (Copied place)
+      → IsMade (map.insert cache t (labels_from copied place)) copied (slice_set places t place) first
+  made_place t place there is = record {
+    view = place_more copied places first t place there is.0
+        ∙ ap (λ (m : Cache). map.insert m t (labels_from copied place)) made.view;
+    are = (set_inside copied places t place there is.1 made.are.0, made.are.1);
+  }
+
+-- one more among the first
+pub made_first : {cache : Cache} {copied places : List ℕ} (first : List Target) (count : ℕ)
+    → IsMade cache copied places (take count first) → (t : ℕ) (labels : TargetLabels) → map.get cache t ≡ None
+    → count < length first → AreThere copied labels
+    → IsMade (map.insert cache t (target_labels copied labels)) copied places
+    (take (count + 1) (slice_set first count (record { offset = t; labels = labels })))
+made_first {cache} {copied} {places} first count made t labels none less is =
+    let one : Target = record { offset = t; labels = labels } in
+    let more : take (count + 1) (slice_set first count one) ≡ take count first ++ one ∷ [] =
+    take_more_set first count one less in
+    rw more (record {
+      view = first_more copied places (take count first) t labels (none_at made t none)
+          ∙ ap (λ (m : Cache). map.insert m t (target_labels copied labels)) made.view;
+      are = (made.are.0, All-push (IsTargetThere copied) (take count first) one made.are.1 is);
+    })
+
+-- what is kept for an offset, by where it is
+pub rest_is : (copied places : List ℕ) (first : List Target) (q place : ℕ) (r : Option (List ℕ))
+    → place ≡ get_or places q 0
+    → r ≡ option_or (labels_in copied place) (map.find nat_cmp q (target_entries copied first))
+    → r ≡ map.get (cache_of copied places first) q
+rest_is copied places first q place r at found = found
+    ∙ ap (λ (p : ℕ). option_or (labels_in copied p) (map.find nat_cmp q (target_entries copied first))) at
+    ∙ sym (get_cache copied places first q)
+
+-- what was found for an offset is what is kept
+pub rest_found : (copied : List ℕ) (cache : Cache) (q : ℕ) (rest : Option TargetLabels)
+    → option_map (target_labels copied) rest ≡ map.get cache q → rest_labels copied rest ≡ kept_after cache (Some q)
+rest_found copied cache q None found = ap (λ (o : Option (List ℕ)). unwrap_or o []) found
+rest_found copied cache q (Some labels) found = ap (λ (o : Option (List ℕ)). unwrap_or o []) found

@@ -1,7 +1,6 @@
 -- The offsets that are kept, as a set, and how many pointers are followed.
 use Rattle.std.proofs.Common.{◌≡◌, ℕ, zero, suc, ◌+◌, ◌-◌, ◌^◌, ◌<◌, ◌≤◌, inl, inr, Bool}
-use Rattle.std.proofs.Common.{true, false, cond, List, [], ◌∷◌, ◌++◌, length, refl, ap, sym, ◌∙◌, subst, arith}
-use Rattle.std.proofs.Common.{length-append}
+use Rattle.std.proofs.Common.{true, false, cond, List, [], ◌∷◌, ◌++◌, refl, ap, sym, ◌∙◌, subst, arith}
 use Rattle.std.specs.Prelude.{Option, Some, None, is_some, min, nat_eq, ◌||◌, ◌&&◌, not}
 use Rattle.std.specs.Cmp.{nat_cmp_total, eq_by_cmp_equiv, unsigned_tied, unsigned_ties}
 use Rattle.std.specs.FinMap as map
@@ -12,16 +11,15 @@ use Rattle.std.proofs.Math.Bool.{or-false, or_assoc, or_comm}
 use Rattle.std.proofs.lemmas.Bool.{cases_Bool, cond-true, cond-false, eqb-true, false≢true}
 use Rattle.std.proofs.lemmas.List.Folds.{list_any-append}
 use Rattle.std.proofs.lemmas.Map.Lookups.{exact_unsigned}
-use Rattle.base.specs.declared.wire.pointer_cache.Source.{Source}
-use Rattle.base.specs.declared.wire.pointer_cache.Source.TheVariants.{Nowhere, Message, Kept}
 use Rattle.base.specs.names.Labels.{wire_of}
-use Rattle.base.specs.reading.Pointers.{AreKept, Cache, IsKept, IsSource, KeepsAt, targets_of}
+use Rattle.base.specs.reading.Pointers.{AreKept, Cache, IsKept, targets_of}
 use Rattle.base.proofs.reading.SpellingLemmas.{spelled_once}
 use Rattle.std.specs.declared.cmp.Ordering.{Ordering}
 use Rattle.std.specs.declared.cmp.Ordering.TheVariants.{Less, Equal, Greater}
 use Rattle.base.specs.reading.Passing.{is_among, inserted}
 use Rattle.base.specs.reading.Spelling.{Spelled, ends, label, pointer}
 use Rattle.base.specs.reading.Reader.{Reader}
+use Rattle.base.specs.reading.Tracks.{IsCounted}
 
 -- ---- the offsets that are kept as a set
 
@@ -70,22 +68,15 @@ kept_are bytes cache t items are one u xs is =
           subst (λ (k : ℕ). IsKept bytes k xs) (sym same) (subst (IsKept bytes t) (some_is items xs at) one)
       go false differ at = are u xs at
 
-kept_once : {bytes : List ℕ} {t : ℕ} {xs ys : List ℕ} → IsKept bytes t xs → IsKept bytes t ys → xs ≡ ys
+pub kept_once : {bytes : List ℕ} {t : ℕ} {xs ys : List ℕ} → IsKept bytes t xs → IsKept bytes t ys → xs ≡ ys
 kept_once x y = sym x.wire.whole ∙ ap wire_of (spelled_once x.spelled y.spelled).0 ∙ y.wire.whole
 
 pub kept_at : (bytes : List ℕ) (cache : Cache) (q : ℕ) (labels : List ℕ) → AreKept bytes cache
-    → KeepsAt bytes (targets_of cache) q labels → map.get cache q ≡ Some labels
-kept_at bytes cache q labels are at = go (map.get cache q) refl where
+    → set.contains (targets_of cache) q ≡ true → IsKept bytes q labels → map.get cache q ≡ Some labels
+kept_at bytes cache q labels are has at = go (map.get cache q) refl where
   go : (o : Option (List ℕ)) → map.get cache q ≡ o → map.get cache q ≡ Some labels
-  go None none = absurd (false≢true (sym (ap is_some none) ∙ sym (contains_kept cache q) ∙ at.0))
-  go (Some items) found = found ∙ ap (λ (xs : List ℕ). Some xs) (kept_once (are q items found) at.1)
-
--- a source by what is said of its labels
-pub same_source : (A B : ℕ → List ℕ → Type 0) (source : Source) (labels : List ℕ) → ((q : ℕ) → A q labels → B q labels)
-    → IsSource A source labels → IsSource B source labels
-same_source A B Nowhere labels gives is = tt
-same_source A B (Message same) labels gives is = is
-same_source A B (Kept q) labels gives is = gives q is
+  go None none = absurd (false≢true (sym (ap is_some none) ∙ sym (contains_kept cache q) ∙ has))
+  go (Some items) found = found ∙ ap (λ (xs : List ℕ). Some xs) (kept_once (are q items found) at)
 
 pub kept_near : (bytes : List ℕ) (cache : Cache) → AreKept bytes cache → (q : ℕ)
     → set.contains (targets_of cache) q ≡ true → q < 16384
@@ -151,18 +142,6 @@ contains-one_more s t q = set.contains-insert nat_cmp_total s t q
 pub inserted-none : (s : set.FinSet nat_cmp) → inserted [] s ≡ s
 inserted-none s = same_members (inserted [] s) s (λ q. contains-inserted [] s q ∙ or-false (set.contains s q))
 
-after_all : (a b c : Bool) → (a || (b || (c || false))) ≡ (c || (a || b))
-after_all a b c = ap (λ (last : Bool). a || (b || last)) (or-false c) ∙ sym (or_assoc a b c) ∙ or_comm (a || b) c
-
-pub inserted-push : (ts : List ℕ) (t : ℕ) (s : set.FinSet nat_cmp)
-    → inserted (ts ++ t ∷ []) s ≡ set.insert (inserted ts s) t
-inserted-push ts t s = same_members _ _ (λ q.
-    contains-inserted (ts ++ t ∷ []) s q
-    ∙ ap (λ (b : Bool). set.contains s q || b) (list_any-append (λ (y : ℕ). nat_eq y q) ts (t ∷ []))
-    ∙ after_all (set.contains s q) (is_among ts q) (nat_eq t q)
-    ∙ ap (λ (b : Bool). nat_eq t q || b) (sym (contains-inserted ts s q))
-    ∙ sym (contains-one_more (inserted ts s) t q))
-
 pub inserted-first : (t : ℕ) (ts : List ℕ) (s : set.FinSet nat_cmp) → inserted (t ∷ ts) s ≡ set.insert (inserted ts s) t
 inserted-first t ts s = same_members _ _ (λ q.
     contains-inserted (t ∷ ts) s q
@@ -170,88 +149,74 @@ inserted-first t ts s = same_members _ _ (λ q.
     ∙ ap (λ (b : Bool). nat_eq t q || b) (sym (contains-inserted ts s q))
     ∙ sym (contains-one_more (inserted ts s) t q))
 
--- a list adds at most its length
-pub few_more : (ts : List ℕ) (s : set.FinSet nat_cmp) → set.len (inserted ts s) ≤ set.len s + length ts
-few_more [] s = omega (arith, ap set.len (inserted-none s))
-few_more (t ∷ ts) s =
-    let rest = inserted ts s in
-    let len = ap set.len (inserted-first t ts s) ∙ set.len-insert nat_cmp_total rest t in
-    elim (cases_Bool (set.contains rest t)) [
-      | inl has ↦ omega (arith, few_more ts s, len ∙ cond-true (set.contains rest t) _ _ has)
-      | inr hasnt ↦ omega (arith, few_more ts s, len ∙ cond-false (set.contains rest t) _ _ hasnt)
-    ]
+-- where all of these are in it, it stays
+pub inserted-same : (ts : List ℕ) (s : set.FinSet nat_cmp)
+    → ((q : ℕ) → is_among ts q ≡ true → set.contains s q ≡ true) → inserted ts s ≡ s
+inserted-same ts s has = same_members (inserted ts s) s (λ q.
+    contains-inserted ts s q ∙ go (set.contains s q) (is_among ts q) (has q)) where
+      go : (a b : Bool) → (b ≡ true → a ≡ true) → (a || b) ≡ a
+      go true b has = refl
+      go false true has = absurd (false≢true (has refl))
+      go false false has = refl
 
--- Pointers to these offsets were followed, each to below the one before it, down to start.
-pub record Follows (ts : List ℕ) (start : ℕ) (old new : Reader) : Type 0 where
+-- As many pointers were followed, to targets that weren't kept, each below the one before it, down to low.
+pub record Follows (n low : ℕ) (old new : Reader) : Type 0 where
   pub now : new ≡ record old { jumps = new.jumps }
-  pub jumps : old.jumps + length ts < 2 ^ 64 → new.jumps ≡ old.jumps + length ts
-  pub all : set.len (inserted ts old.kept) ≡ set.len old.kept + length ts
-  pub few : set.len old.kept ≤ 16384 → set.len (inserted ts old.kept) ≤ 16384
-  pub near : ((q : ℕ) → set.contains old.kept q ≡ true → q < 16384) → (q : ℕ)
-      → set.contains (inserted ts old.kept) q ≡ true → q < 16384
-  pub fresh : (q : ℕ) → q < start → set.contains (inserted ts old.kept) q ≡ set.contains old.kept q
+  pub jumps : old.jumps + n < 2 ^ 64 → new.jumps ≡ old.jumps + n
+  pub all : set.FinSet nat_cmp
+  pub len : set.len all ≡ set.len old.kept + n
+  pub near : (q : ℕ) → set.contains all q ≡ true → q < 16384
+  pub fresh : (q : ℕ) → q < low → set.contains all q ≡ set.contains old.kept q
 
-pub Follows-none : (start : ℕ) (old : Reader) → Follows [] start old old
-Follows-none start old = record {
+pub Follows-none : (low : ℕ) (old : Reader) → ((q : ℕ) → set.contains old.kept q ≡ true → q < 16384)
+    → Follows 0 low old old
+Follows-none low old near = record {
   now = refl;
   jumps = λ small. omega arith;
-  all = omega (arith, ap set.len (inserted-none old.kept));
-  few = λ few. omega (arith, few, ap set.len (inserted-none old.kept));
-  near = λ near q is. near q (ap (λ (k : set.FinSet nat_cmp). set.contains k q) (sym (inserted-none old.kept)) ∙ is);
-  fresh = λ q below. ap (λ (k : set.FinSet nat_cmp). set.contains k q) (inserted-none old.kept);
+  all = old.kept;
+  len = omega arith;
+  near = near;
+  fresh = λ q below. refl;
 }
 
-module _ {ts : List ℕ} {start t : ℕ} {old new after : Reader} (f : Follows ts start old new) (below : t < start)
-    (small : t < 16384)
-    (absent : set.contains new.kept t ≡ false) (near : (q : ℕ) → set.contains new.kept q ≡ true → q < 16384)
+module _ {n low t : ℕ} {old new after : Reader} (f : Follows n low old new) (below : t < low) (small : t < 16384)
+    (absent : set.contains old.kept t ≡ false)
     (is : after ≡ record new { jumps = min (new.jumps + 1) (2 ^ 64 - 1) }) where
-  kept : new.kept ≡ old.kept
-  kept = ap (λ (r : Reader). r.kept) f.now
+  has : (q : ℕ) → set.contains (set.insert f.all t) q ≡ (eq_by_cmp nat_cmp q t || set.contains f.all q)
+  has q = set.contains-insert nat_cmp_total f.all t q
 
-  not_yet : set.contains (inserted ts old.kept) t ≡ false
-  not_yet = f.fresh t below ∙ ap (λ (k : set.FinSet nat_cmp). set.contains k t) (sym kept) ∙ absent
-
-  len : set.len (inserted (ts ++ t ∷ []) old.kept) ≡ set.len (inserted ts old.kept) + 1
-  len = ap set.len (inserted-push ts t old.kept) ∙ set.len-insert nat_cmp_total (inserted ts old.kept) t
-      ∙ cond-false (set.contains (inserted ts old.kept) t) _ _ not_yet
-
-  has : (q : ℕ) → set.contains (inserted (ts ++ t ∷ []) old.kept) q
-      ≡ (eq_by_cmp nat_cmp q t || set.contains (inserted ts old.kept) q)
-  has q = ap (λ (k : set.FinSet nat_cmp). set.contains k q) (inserted-push ts t old.kept)
-      ∙ set.contains-insert nat_cmp_total (inserted ts old.kept) t q
-
-  near_all : ((q : ℕ) → set.contains old.kept q ≡ true → q < 16384) → (q : ℕ)
-      → set.contains (inserted (ts ++ t ∷ []) old.kept) q ≡ true → q < 16384
-  near_all near_old q one = go (eq_by_cmp nat_cmp q t) refl (sym (has q) ∙ one) where
-    go : (b : Bool) → eq_by_cmp nat_cmp q t ≡ b → (b || set.contains (inserted ts old.kept) q) ≡ true → q < 16384
-    go true equal all = omega (arith, exact_unsigned q t (equal_is (nat_cmp q t) equal))
-    go false differ all = f.near near_old q all
-
-  few_all : set.len (inserted (ts ++ t ∷ []) old.kept) ≤ 16384
-  few_all = few_below 16384 (inserted (ts ++ t ∷ []) old.kept)
-      (near_all (subst (λ (k : set.FinSet nat_cmp). (q : ℕ) → set.contains k q ≡ true → q < 16384) kept near))
-
-  fresh_all : (q : ℕ) → q < t → set.contains (inserted (ts ++ t ∷ []) old.kept) q ≡ set.contains old.kept q
-  fresh_all q less = has q ∙ go (eq_by_cmp nat_cmp q t) refl where
-    go : (b : Bool) → eq_by_cmp nat_cmp q t ≡ b → (b || set.contains (inserted ts old.kept) q) ≡ set.contains old.kept q
-    go true equal = absurd (omega (arith, exact_unsigned q t (equal_is (nat_cmp q t) equal)))
-    go false differ = f.fresh q (omega arith)
-
-  pub Follows-push : Follows (ts ++ t ∷ []) t old after
+  pub Follows-push : Follows (n + 1) t old after
   Follows-push = record {
     now = is ∙ ap (λ (r : Reader). record r { jumps = min (new.jumps + 1) (2 ^ 64 - 1) }) f.now
         ∙ ap (λ (j : ℕ). record old { jumps = j }) (sym (ap (λ (r : Reader). r.jumps) is));
-    jumps = λ fits. omega (
+    jumps = λ fits. omega (arith, ap (λ (r : Reader). r.jumps) is, f.jumps (omega (arith, fits)));
+    all = set.insert f.all t;
+    len = omega (
       arith,
-      ap (λ (r : Reader). r.jumps) is,
-      f.jumps (omega (arith, length-append ts (t ∷ []))),
-      length-append ts (t ∷ []),
+      f.len,
+      set.len-insert nat_cmp_total f.all t
+          ∙ cond-false (set.contains f.all t) _ _ (f.fresh t below ∙ absent),
     );
-    all = omega (arith, len, f.all, length-append ts (t ∷ []));
-    few = λ few. few_all;
-    near = near_all;
-    fresh = fresh_all;
-  }
+    near = λ q one. near_or (eq_by_cmp nat_cmp q t) refl (sym (has q) ∙ one);
+    fresh = λ q less. has q ∙ fresh_or (eq_by_cmp nat_cmp q t) refl less;
+  } where
+    near_or : {q : ℕ} (b : Bool) → eq_by_cmp nat_cmp q t ≡ b → (b || set.contains f.all q) ≡ true → q < 16384
+    near_or {q} true equal all = omega (arith, exact_unsigned q t (equal_is (nat_cmp q t) equal))
+    near_or {q} false differ all = f.near q all
+
+    fresh_or : {q : ℕ} (b : Bool) → eq_by_cmp nat_cmp q t ≡ b → q < t
+        → (b || set.contains f.all q) ≡ set.contains old.kept q
+    fresh_or {q} true equal less = absurd (omega (arith, exact_unsigned q t (equal_is (nat_cmp q t) equal)))
+    fresh_or {q} false differ less = f.fresh q (omega arith)
+
+-- there are no more than a pointer can name offsets
+pub Follows-few : {n low : ℕ} {old new : Reader} → Follows n low old new → IsCounted old
+    → (new.jumps ≡ set.len old.kept + n) × (set.len old.kept + n ≤ 16384)
+Follows-few {n} {low} {old} {new} f counted =
+    let few = few_below 16384 f.all f.near in (
+      omega (arith, f.jumps (omega (arith, counted.exact, f.len, few)), counted.exact),
+      omega (arith, f.len, few),
+    )
 
 -- a name ends after the place where it begins
 pub ends_after : {bytes : List ℕ} {s i e : ℕ} {xs : List (List ℕ)} → Spelled bytes xs s i e → i < e

@@ -64,7 +64,7 @@ module _ {buffer : List ℕ} {first before start at used : ℕ} {bytes : List �
       → labels_at buffer first first before ≡ with_front (labels_of bytes) (ended_at end read)
   goes read is = sym gathers.so_far ∙ ap (λ (r : Labels). with_front (labels_of bytes) (ended_at end r)) is
 
-  fails : (f : DecodeError) → labels_at buffer start at used ≡ Err f → labels_at buffer first first before ≡ Err f
+  pub fails : (f : DecodeError) → labels_at buffer start at used ≡ Err f → labels_at buffer first first before ≡ Err f
   fails f is = goes (Err f) is ∙ at_err end f where
     at_err : (end : Option ℕ) (f : DecodeError) → with_front (labels_of bytes) (ended_at end (Err f)) ≡ Err f
     at_err None f = refl
@@ -143,6 +143,12 @@ push_front front x (Some e) (Err f) = refl
 pub fails_is : {A : Type 0} (f : DecodeError) (read : Result A DecodeError) → read ≡ Err f → Fails f read
 fails_is faults.Memory read is = tt
 fails_is f read is = is
+
+-- a fault goes on to where another reading meets it
+pub fails_on : {A B : Type 0} (f : DecodeError) (read : Result A DecodeError) (other : Result B DecodeError)
+    → (read ≡ Err f → other ≡ Err f) → Fails f read → Fails f other
+fails_on faults.Memory read other goes is = tt
+fails_on f read other goes is = goes is
 
 module _ {buffer : List ℕ} {first before start at used : ℕ} {bytes : List ℕ} {end : Option ℕ}
     (gathers : Gathers buffer first before start at used bytes end) where

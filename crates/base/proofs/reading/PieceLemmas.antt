@@ -3,25 +3,25 @@ use Rattle.std.proofs.Common.{◌≡◌, ℕ, ◌+◌, ◌-◌, ◌<◌, ◌≤�
 use Rattle.std.proofs.Common.{Option, None, Some, Result, Ok, Err, true, refl, ap, sym, ◌∙◌, subst, arith, append_assoc}
 use Rattle.std.proofs.Common.{get_or-take, length-drop, length-take}
 use Rattle.std.proofs.Math.Seq.{take-add}
-use Rattle.std.proofs.lemmas.Bool.{cases_lt}
+use Rattle.std.proofs.lemmas.Bool.{cases_lt, false≢true}
 use Rattle.std.proofs.lemmas.List.{append-nil, drop-drop, get_or-drop}
 use Rattle.std.specs.FinSet as set
+use Rattle.std.specs.Prelude.{IfSome}
+use Rattle.std.specs.Ordering.{nat_cmp}
 use Rattle.std.specs.List.{slice_range}
-use Rattle.base.specs.reading.Pointers.{AreTooLong, IsKept, PassesThese}
+use Rattle.base.specs.reading.Pointers.{AreTooLong, IsKept}
 use Rattle.base.specs.reading.Pieces.{IsPiece, IsRefusedIn, LabelsUpTo, RefusedAt, ending_of, no_label, one_more}
 use Rattle.base.specs.reading.Pieces.{nothing_there, too_long}
 use Rattle.base.specs.names.Labels.{IsWire, labels_of}
 use Rattle.base.specs.reading.Names.{NamePart, label_of, labels_at, part_at}
-use Rattle.base.specs.declared.name.reading.FollowedPointer.{FollowedPointer}
 use Rattle.base.specs.declared.name.reading.NamePiece.{NamePiece}
-use Rattle.base.specs.reading.Spelling.{ByteAt, anywhere}
-use Rattle.base.specs.reading.Passing.{IsClosed}
-use Rattle.base.specs.reading.Reader.{Reader}
+use Rattle.base.specs.reading.Spelling.{ByteAt, Spelled, anywhere}
+use Rattle.base.specs.reading.Passing.{IsClosed, PassesKept, is_among, passed}
 use Rattle.base.specs.declared.error.decode_error.DecodeError.{DecodeError}
 use Rattle.base.specs.declared.error.decode_error.DecodeError.TheVariants as faults
 use Rattle.base.proofs.reading.GatherLemmas.{Gathers, IsWire-append, at_fault, at_kept, at_long, at_root, gathers_label}
-use Rattle.base.proofs.reading.GatherLemmas.{gathers_none, pointer_refused}
-use Rattle.base.proofs.reading.PassLemmas.{Lead, Leads, Leads-kept, Leads-label, Leads-none, Leads-root}
+use Rattle.base.proofs.reading.GatherLemmas.{fails, gathers_none, gathers_pointer, pointer_refused, spelled_is}
+use Rattle.base.proofs.reading.PassLemmas.{Leads, Leads-label, Leads-none, Rest, kept_next, passes_next, passes_none}
 use Rattle.base.proofs.reading.WalkLemmas.{PartIs, byte, is_past, is_root, is_cut_label, is_label, is_bits}
 use Rattle.base.proofs.reading.WalkLemmas.{is_cut_pointer, is_pointer, part_is}
 use Rattle.base.proofs.reading.WalkLemmas.{part_at-past, part_at-root, part_at-cut_label, part_at-label, part_at-bits}
@@ -108,16 +108,11 @@ module _ (buffer : List ℕ) (s : ℕ) {len : ℕ} (labels : LabelsUpTo (drop s 
       (gathers_label so n size (bytes ++ take (i + size) piece) (there i (Ok (label_of n)) is) refl
       (omega (arith, inside, short)) all)))
 
-  pub leads_piece : {first : ℕ} {ts : List ℕ} → Leads buffer first ts s s → Leads buffer first ts s (s + len)
-  leads_piece {first} {ts} leads =
+  pub leads_piece : Leads buffer s (s + len)
+  leads_piece =
       let here : s ≡ s + 0 = omega arith in
-      over_labels (λ k. Leads buffer first ts s (s + k)) labels
-      (subst (λ (k : ℕ). Leads buffer first ts s k) here leads)
+      over_labels (λ k. Leads buffer s (s + k)) labels (subst (Leads buffer s) here (Leads-none buffer s))
       (λ i n inside is so. Leads-label so (there i (Ok (label_of n)) is) (omega arith))
-
-  pub lead_piece : (ps : List FollowedPointer) → Lead buffer ps s s → Lead buffer ps s (s + len)
-  lead_piece [] lead = tt
-  lead_piece (p ∷ ps) lead = (leads_piece lead.0, lead_piece ps lead.1)
 
 -- what ends a piece stands in the buffer
 pub piece_end : (buffer : List ℕ) (s : ℕ) {bytes : List ℕ} {before : ℕ} {piece : NamePiece} → bytes ≡ drop s buffer
@@ -226,50 +221,75 @@ module _ (bytes : List ℕ) {near : List ℕ} (m : ℕ) (near_is : near ≡ take
             (omega (arith, long));
       }
 
--- ---- a name whose own piece is all that is read
+-- ---- a piece, and what its pointer leads to
 
--- What was found is the name at the place.
-pub record IsName (r : Reader) (labels : List ℕ) (after : ℕ) : Type 0 where
-  pub read : labels_at r.bytes r.index r.index 0 ≡ Ok (labels_of labels, after)
-  pub wire : IsWire labels
-  pub these : PassesThese r.bytes r.kept r.index []
-
-module _ (r : Reader) {front : List ℕ} {piece : NamePiece} (inside : r.index ≤ length r.bytes)
-    (same : front ≡ drop r.index r.bytes) (front_is : IsPiece front 0 piece) where
-  is : IsPiece (drop r.index r.bytes) 0 piece
-  is = subst (λ (xs : List ℕ). IsPiece xs 0 piece) same front_is
+module _ (bytes : List ℕ) (s : ℕ) {front : List ℕ} {before : ℕ} {piece : NamePiece} (inside : s ≤ length bytes)
+    (same : front ≡ drop s bytes) (front_is : IsPiece front before piece) where
+  is : IsPiece (drop s bytes) before piece
+  is = subst (λ (xs : List ℕ). IsPiece xs before piece) same front_is
 
   abbrev own : List ℕ
-  own = take piece.len (drop r.index r.bytes)
+  own = take piece.len (drop s bytes)
 
-  gathers : Gathers r.bytes r.index 0 r.index (r.index + piece.len) (0 + piece.len) own None
-  gathers = gathers_piece r.bytes r.index is.labels (gathers_none r.bytes r.index 0 inside (omega arith)) is.short
+  pub gathers_own : Gathers bytes s before s (s + piece.len) (before + piece.len) own None
+  gathers_own = gathers_piece bytes s is.labels (gathers_none bytes s before inside (omega (arith, is.short))) is.short
 
-  leads : Leads r.bytes r.index [] r.index (r.index + piece.len)
-  leads = leads_piece r.bytes r.index is.labels (Leads-none r.bytes r.index)
+  part : {end : NamePart} → ending_of piece.pointer ≡ end → part_at bytes (s + piece.len) ≡ Ok end
+  part end_is = piece_end bytes s refl is ∙ ap Ok end_is
 
-  part : {end : NamePart} → ending_of piece.pointer ≡ end → part_at r.bytes (r.index + piece.len) ≡ Ok end
-  part end_is = piece_end r.bytes r.index refl is ∙ ap Ok end_is
+  -- the labels that are read
+  pub reads_root : piece.pointer ≡ None → labels_at bytes s s before ≡ Ok (labels_of own, s + piece.len + 1)
+  reads_root none = at_root gathers_own (part (ap ending_of none))
 
-  pub name_root : piece.pointer ≡ None → IsName r (take piece.len (drop r.index r.bytes)) (r.index + piece.len + 1)
-  name_root none = record {
-    read = at_root gathers (part (ap ending_of none));
-    wire = gathers.wire;
-    these = Leads-root leads r.kept (part (ap ending_of none));
+  module _ {t : ℕ} (some : piece.pointer ≡ Some t) where
+    pub reads_next : {items : List ℕ} → t < s → IsKept bytes t items → before + piece.len + length items ≤ 254
+        → labels_at bytes s s before ≡ Ok (labels_of (own ++ items), s + piece.len + 2)
+    reads_next below kept short = at_kept gathers_own (part (ap ending_of some)) below kept (omega (arith, short))
+
+    pub reads_nowhere : (t < s → AreTooLong bytes t (before + piece.len))
+        → labels_at bytes s s before ≡ Err faults.BadName
+    reads_nowhere long = pointer_refused gathers_own (part (ap ending_of some)) long
+
+    pub reads_refused : t < s → (f : DecodeError) → labels_at bytes t t (before + piece.len) ≡ Err f
+        → labels_at bytes s s before ≡ Err f
+    reads_refused below f refused = fails (gathers_pointer gathers_own t (part (ap ending_of some)) below) f refused
+
+    pub wire_next : {items : List ℕ} → IsKept bytes t items → before + piece.len + length items ≤ 254
+        → IsWire (own ++ items)
+    wire_next {items} kept short = IsWire-append own items gathers_own.wire kept.wire
+        (omega (arith, short, gathers_own.len))
+
+    pub piece_next : (xs : List (List ℕ)) (e : ℕ) (h : Spelled bytes xs s s e)
+        → Rest bytes t t (λ qs. passed h ≡ t ∷ qs)
+    piece_next = passes_next (leads_piece bytes s is.labels) (part (ap ending_of some))
+
+    -- where it leads to a kept offset
+    pub kept_piece : {items : List ℕ} → s < 16384 → t < s → IsKept bytes t items
+        → before + piece.len + length items ≤ 254 → IsKept bytes s (own ++ items)
+    kept_piece {items} near below kept short = record {
+      end = _;
+      near = near;
+      wire = wire_next kept short;
+      spelled = spelled_is bytes s before _ (own ++ items) (omega (arith, is.short)) (reads_next below kept short);
+    }
+
+  pub piece_root : piece.pointer ≡ None → (xs : List (List ℕ)) (e : ℕ) (h : Spelled bytes xs s s e) → passed h ≡ []
+  piece_root none = passes_none (leads_piece bytes s is.labels) (part (ap ending_of none))
+
+  pub root_piece : s < 16384 → piece.pointer ≡ None → IsKept bytes s own
+  root_piece near none = record {
+    end = _;
+    near = near;
+    wire = gathers_own.wire;
+    spelled = spelled_is bytes s before _ own (omega (arith, is.short)) (reads_root none);
   }
 
-  pub name_kept : {t : ℕ} (items : List ℕ) → piece.pointer ≡ Some t → t < r.index → IsKept r.bytes t items
-      → piece.len + length items ≤ 254
-      → set.contains r.kept t ≡ true → IsClosed r.bytes r.kept
-      → IsName r (take piece.len (drop r.index r.bytes) ++ items) (r.index + piece.len + 2)
-  name_kept items some below kept short has closed = record {
-    read = at_kept gathers (part (ap ending_of some)) below kept (omega (arith, short));
-    wire = IsWire-append own items gathers.wire kept.wire (omega (arith, short, gathers.len));
-    these = Leads-kept leads r.kept (part (ap ending_of some)) has closed;
-  }
-
-  pub pointed_nowhere : {t : ℕ} → piece.pointer ≡ Some t → (t < r.index → AreTooLong r.bytes t piece.len)
-      → labels_at r.bytes r.index r.index 0 ≡ Err faults.BadName
-  pointed_nowhere {t} some long =
-      let all : piece.len ≡ 0 + piece.len = omega arith in
-      pointer_refused gathers (part (ap ending_of some)) (λ below. subst (AreTooLong r.bytes t) all (long below))
+-- all that a piece passes is kept where its pointer leads to a kept offset
+pub piece_passes : (bytes : List ℕ) (s : ℕ) {before : ℕ} {piece : NamePiece} (kept : set.FinSet nat_cmp)
+    → s ≤ length bytes → IsPiece (drop s bytes) before piece → IsClosed bytes kept
+    → IfSome piece.pointer (λ t. set.contains kept t ≡ true) → PassesKept bytes kept s
+piece_passes bytes s {before} {piece} kept inside p closed leads = go piece.pointer refl leads where
+  go : (o : Option ℕ) → piece.pointer ≡ o → IfSome o (λ t. set.contains kept t ≡ true) → PassesKept bytes kept s
+  go None none leads = λ xs e h q in_it. absurd (false≢true
+      (ap (λ (qs : List ℕ). is_among qs q) (sym (piece_root bytes s inside refl p none xs e h)) ∙ in_it))
+  go (Some t) some has = λ xs e h. kept_next kept has closed (piece_next bytes s inside refl p some xs e h)

@@ -1,12 +1,10 @@
 -- The pieces of a name: labels up to a zero byte or a pointer (RFC 1035, 4.1.4).
-use Rattle.base.specs.declared.limits.TheConstants.{MAX_LABELS, MAX_NAME, POINTER_LIMIT}
-use Rattle.std.specs.Prelude.{◌≡◌, ℕ, true, false, ◌+◌, ◌<◌, ◌≤◌, List, Ok, Err, Option, Some, None, drop, length}
-use Rattle.std.specs.FinSet as set
+use Rattle.base.specs.declared.limits.TheConstants.{MAX_LABELS, MAX_NAME}
+use Rattle.std.specs.Prelude.{◌≡◌, ℕ, ◌+◌, ◌<◌, ◌≤◌, List, Ok, Err, Option, Some, None}
 use Rattle.base.specs.declared.error.decode_error.DecodeError.{DecodeError}
 use Rattle.base.specs.declared.error.decode_error.DecodeError.TheVariants as faults
 use Rattle.base.specs.declared.name.reading.NamePiece.{NamePiece}
 use Rattle.base.specs.reading.Names.{NamePart, part_at, zero_byte, label_of, pointer_to}
-use Rattle.base.specs.reading.Reader.{Reader}
 
 -- labels stand one after another, from the front up to here
 pub data LabelsUpTo (bytes : List ℕ) : ℕ → Type 0 where
@@ -37,15 +35,3 @@ pub record IsRefusedIn (bytes : List ℕ) (before : ℕ) (e : DecodeError) : Typ
   pub labels : LabelsUpTo bytes at
   pub short : before + at ≤ MAX_LABELS
   pub refused : RefusedAt bytes before at e
-
--- The name at the place has as many bytes of own labels, and then a pointer that has to be followed: it leads to below
--- the name, and its target isn't kept. What is kept can be named by a pointer.
-pub record IsPointed (reader : Reader) (own t : ℕ) : Type 0 where
-  pub labels : LabelsUpTo (drop reader.index reader.bytes) own
-  pub short : own ≤ MAX_LABELS
-  pub end : part_at (drop reader.index reader.bytes) own ≡ Ok (pointer_to t)
-  pub inside : reader.index ≤ length reader.bytes
-  pub near : t < POINTER_LIMIT
-  pub below : t < reader.index
-  pub absent : set.contains reader.kept t ≡ false
-  pub all_near : (q : ℕ) → set.contains reader.kept q ≡ true → q < POINTER_LIMIT

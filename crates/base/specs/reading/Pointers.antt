@@ -1,23 +1,25 @@
 -- The labels that are kept at the offsets that compression pointers led to.
 use Rattle.base.specs.declared.limits.TheConstants.{MAX_LABELS, POINTER_LIMIT}
-use Rattle.std.specs.Prelude.{◌≡◌, ◌≢◌, ℕ, zero, suc, true, ◌+◌, ◌-◌, ◌^◌, ◌<◌, ◌≤◌, ◌==◌, List}
-use Rattle.std.specs.Prelude.{[], ◌∷◌, ◌++◌, All, Option, Some, None, if◌then◌else◌, drop, get_or, length, map}
-use Rattle.std.specs.Prelude.{option_map, take}
+use Rattle.std.specs.Prelude.{◌≡◌, ◌≢◌, ℕ, zero, suc, true, false, ◌+◌, ◌-◌, ◌<◌, ◌≤◌, ◌==◌, List}
+use Rattle.std.specs.Prelude.{[], ◌∷◌, ◌++◌, Option, Some, None, if◌then◌else◌, get_or, length, map}
+use Rattle.std.specs.Prelude.{option_map, take, unwrap_or}
+use Rattle.std.specs.Prelude.{IfSome, drop}
 use Rattle.std.specs.Borrow.{Bor}
 use Rattle.std.specs.FinMap as labels_by
 use Rattle.std.specs.FinSet as set
 use Rattle.std.specs.List.{slice_range}
 use Rattle.std.specs.Ordering.{nat_cmp}
-use Rattle.base.specs.declared.name.reading.FollowedPointer.{FollowedPointer}
-use Rattle.base.specs.declared.wire.pointer_cache.Source.{Source}
-use Rattle.base.specs.declared.wire.pointer_cache.Source.TheVariants.{Nowhere, Message, Kept}
+use Rattle.base.specs.declared.name.reading.NamePiece.{NamePiece}
 use Rattle.base.specs.declared.wire.pointer_cache.TargetLabels.{TargetLabels}
 use Rattle.base.specs.declared.wire.pointer_cache.TargetLabels.TheVariants.{Lent, Copied}
 use Rattle.base.specs.declared.wire.pointer_cache.Target.{Target}
+use Rattle.base.specs.declared.wire.pointer_cache.FirstTargets.{FirstTargets}
 use Rattle.base.specs.names.Labels.{IsWire, labels_of}
-use Rattle.base.specs.reading.Passing.{AreIn, PassesKept, is_among, inserted, passed}
+use Rattle.base.specs.reading.Passing.{inserted, passed}
+use Rattle.base.specs.reading.Pieces.{IsPiece}
 use Rattle.base.specs.reading.Reader.{Reader}
 use Rattle.base.specs.reading.Spelling.{Spelled}
+use Rattle.base.specs.reading.Tracks.{IsCounted}
 
 -- these bytes are the labels that are spelled at t
 pub record IsKept (bytes : List ℕ) (t : ℕ) (items : List ℕ) : Type 0 where
@@ -31,6 +33,12 @@ pub record AreTooLong (bytes : List ℕ) (t used : ℕ) : Type 0 where
   pub items : List ℕ
   pub kept : IsKept bytes t items
   pub long : MAX_LABELS < used + length items
+
+-- after this many bytes of labels, a name has room for those that are spelled at t
+pub record Fit (bytes : List ℕ) (t used : ℕ) : Type 0 where
+  pub items : List ℕ
+  pub kept : IsKept bytes t items
+  pub short : used + length items ≤ MAX_LABELS
 
 -- the labels by the offset that a pointer led to
 abbrev pub Cache : Type 0
@@ -49,15 +57,10 @@ targets_of cache = set.from_list (labels_by.keys cache)
 abbrev pub labels_now : Option (Bor (List ℕ)) → Option (List ℕ)
 labels_now found = option_map (λ labels. labels.now) found
 
--- the labels that are spelled at q are kept, and are these
-abbrev pub KeepsAt : List ℕ → set.FinSet nat_cmp → ℕ → List ℕ → Type 0
-KeepsAt bytes kept q items = (set.contains kept q ≡ true) × IsKept bytes q items
-
--- these labels are where a source says, given which are kept for which offset
-abbrev pub IsSource : (ℕ → List ℕ → Type 0) → Source → List ℕ → Type 0
-IsSource AreAt Nowhere labels = Unit {0}
-IsSource AreAt (Message same) labels = same.now ≡ labels
-IsSource AreAt (Kept q) labels = AreAt q labels
+-- the labels that are kept at an offset, if any
+abbrev pub kept_after : Cache → Option ℕ → List ℕ
+kept_after cache None = []
+kept_after cache (Some t) = unwrap_or (labels_by.get cache t) []
 
 -- ---- how a cache has them: lent, or at a place among those that were copied
 
@@ -82,6 +85,10 @@ abbrev pub copied_bytes : ℕ → List ℕ → List ℕ → List ℕ
 copied_bytes used first [] = take used first
 copied_bytes used first (b ∷ bs) = b ∷ bs
 
+-- labels after those that were copied before, with their number before them
+abbrev pub with_copied : List ℕ → List ℕ → List ℕ
+with_copied copied labels = copied ++ (length labels ∷ labels)
+
 -- the labels at a place are there
 abbrev pub IsInside : List ℕ → ℕ → Type 0
 IsInside copied place = place ≢ 0 → place + len_at copied place ≤ length copied
@@ -90,6 +97,11 @@ IsInside copied place = place ≢ 0 → place + len_at copied place ≤ length c
 abbrev pub target_labels : List ℕ → TargetLabels → List ℕ
 target_labels copied (Lent labels) = labels.now
 target_labels copied (Copied place) = labels_from copied place
+
+-- the same, and none of no target
+abbrev pub rest_labels : List ℕ → Option TargetLabels → List ℕ
+rest_labels copied None = []
+rest_labels copied (Some labels) = target_labels copied labels
 
 -- those that are lent are a name's, and those that are copied have a place, and are there
 abbrev pub AreThere : List ℕ → TargetLabels → Type 0
@@ -105,6 +117,10 @@ pub record IsLonger (old new : List ℕ) : Type 0 where
   pub more : List ℕ
   pub is : new ≡ old ++ more
 
+-- those of the first targets that are in use
+abbrev pub first_of : FirstTargets → List Target
+first_of first = take first.count first.all
+
 -- targets with their labels
 abbrev pub target_entries : List ℕ → List Target → List (ℕ × List ℕ)
 target_entries copied targets = map (λ t. (t.offset, target_labels copied t.labels)) targets
@@ -116,43 +132,33 @@ entries_from t copied (zero ∷ places) = entries_from (suc t) copied places
 entries_from t copied (suc n ∷ places) =
     (t, labels_from copied (suc n)) ∷ entries_from (suc t) copied places
 
--- the first targets, and those that have a place by their offset
+-- the targets that have a place by their offset, and the first ones
 abbrev pub cache_of : List ℕ → List ℕ → List Target → Cache
-cache_of copied others first =
-    labels_by.from_entries (target_entries copied first ++ entries_from 0 copied others)
+cache_of copied places first =
+    labels_by.from_entries (entries_from 0 copied places ++ target_entries copied first)
 
--- ---- the pointers of a name that is read
+-- ---- the targets of a name that is read
 
--- the offsets that pointers led to
-abbrev pub targets : List FollowedPointer → List ℕ
-targets ps = map (λ p. p.target) ps
+-- A pointer can lead to t, which isn't kept, and to all that is.
+pub record IsNewTarget (reader : Reader) (t : ℕ) : Type 0 where
+  pub inside : t ≤ length reader.bytes
+  pub near : t < POINTER_LIMIT
+  pub absent : set.contains reader.kept t ≡ false
+  pub all_near : (q : ℕ) → set.contains reader.kept q ≡ true → q < POINTER_LIMIT
 
--- the labels from there on are those after each pointer
-abbrev pub AreSpelled : List ℕ → List ℕ → List FollowedPointer → Type 0
-AreSpelled bytes labels ps =
-    All (λ p. (p.from ≤ length labels) × IsKept bytes p.target (drop p.from labels)) ps
+-- The labels at t can be kept, which aren't yet: this piece stands there, and its pointer leads to an offset before it
+-- whose labels are kept and fit.
+pub record CanKeep (reader : Reader) (t : ℕ) (piece : NamePiece) : Type 0 where
+  pub near : t < POINTER_LIMIT
+  pub inside : t ≤ length reader.bytes
+  pub absent : set.contains reader.kept t ≡ false
+  pub stands : IsPiece (drop t reader.bytes) 0 piece
+  pub after : IfSome piece.pointer
+      (λ q. (q < t) × ((set.contains reader.kept q ≡ true) × Fit reader.bytes q piece.len))
 
--- a statement of the labels that the last of these pointers led to
-abbrev pub OfLast : (List ℕ → Type 0) → List ℕ → List FollowedPointer → Type 0
-OfLast Is labels [] = Unit {0}
-OfLast Is labels (p ∷ []) = Is (drop p.from labels)
-OfLast Is labels (p ∷ q ∷ ps) = OfLast Is labels (q ∷ ps)
-
--- After each pointer kept offsets are passed, and those of the pointers that were followed later.
-abbrev pub PassLater : List ℕ → set.FinSet nat_cmp → List FollowedPointer → Type 0
-PassLater bytes kept [] = Unit {0}
-PassLater bytes kept (p ∷ ps) = PassesKept bytes (inserted (targets ps) kept) p.target
-    × PassLater bytes kept ps
-
--- these offsets are passed by what is spelled at t, and else kept ones alone
-abbrev pub PassesThese : List ℕ → set.FinSet nat_cmp → ℕ → List ℕ → Type 0
-PassesThese bytes kept t ts = (xs : List (List ℕ)) (e : ℕ) (h : Spelled bytes xs t t e)
-    → AreIn (inserted ts kept) (passed h)
-    × ((q : ℕ) → is_among ts q ≡ true → is_among (passed h) q ≡ true)
-
--- Pointers to these offsets were followed, none of them twice and none that was kept, and nothing is kept yet.
-pub record Followed (ts : List ℕ) (old new : Reader) : Type 0 where
-  pub now : new ≡ record old { jumps = new.jumps }
-  pub jumps : old.jumps + length ts < 2 ^ 64 → new.jumps ≡ old.jumps + length ts
-  pub all : set.len (inserted ts old.kept) ≡ set.len old.kept + length ts
-  pub few : set.len old.kept ≤ POINTER_LIMIT → set.len (inserted ts old.kept) ≤ POINTER_LIMIT
+-- The offset t and what is passed from there are kept in addition, and as many pointers were followed.
+pub record IsAdded (t : ℕ) (old new : Reader) : Type 0 where
+  pub now : new ≡ record old { kept = new.kept; jumps = new.jumps }
+  pub kept : (xs : List (List ℕ)) (e : ℕ) (h : Spelled old.bytes xs t t e)
+      → new.kept ≡ inserted (t ∷ passed h) old.kept
+  pub counts : IsCounted old → IsCounted new

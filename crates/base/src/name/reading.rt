@@ -1,44 +1,30 @@
 //! Reads a name (RFC 1035, 4.1.4).
 
 ghost use Rattle.base.specs.declared.limits.TheConstants.{MAX_LABELS, POINTER_LIMIT};
-ghost use Rattle.std.specs.Prelude.{◌≡◌, ℕ, ◌<◌, ◌≤◌, ◌+◌, ◌++◌, ◌∷◌, [], Ok, Err, length, take, drop, IfErr, IfOk, IfSome, OnOk, OnErr, IsOkUnless, MatchResult, is_some, true};
+ghost use Rattle.std.specs.Prelude.{Some, ◌≡◌, ℕ, ◌<◌, ◌≤◌, ◌+◌, ◌++◌, ◌∷◌, [], Ok, Err, length, take, drop, IfErr, IfOk, IfSome, OnOk, OnErr, IsOkUnless, MatchResult, is_some, true};
 ghost use Rattle.std.specs.FinSet as set;
 ghost use Rattle.base.specs.names.Labels.{IsWire, labels_of};
 ghost use Rattle.base.specs.reading.Names.{labels_at, name_at};
-ghost use Rattle.base.specs.reading.Pieces.{IsPiece, IsPointed, IsRefusedIn};
-ghost use Rattle.base.specs.reading.Pointers.{AreSpelled, AreTooLong, Followed, IsKept, IsSource, KeepsAt, OfLast, PassLater, PassesThese, targets};
-ghost use Rattle.base.specs.reading.Passing.{IsClosed, inserted, passed};
+ghost use Rattle.base.specs.reading.Pieces.{IsPiece, IsRefusedIn};
+ghost use Rattle.base.specs.reading.Pointers.{AreTooLong, Fit, IsAdded, IsKept, IsNewTarget};
+ghost use Rattle.base.specs.reading.Passing.{IsClosed, passed};
 ghost use Rattle.base.specs.reading.Reading.{Fails, Reads};
 ghost use Rattle.base.specs.reading.Spelling.{Spelled};
-ghost use Rattle.base.specs.reading.Tracks.{Tracks};
+ghost use Rattle.base.specs.reading.Tracks.{IsBounded, Tracks};
 
 use crate::error::DecodeError;
 use crate::labels::Labels;
 use crate::limits::{MAX_LABEL, MAX_LABELS, MAX_NAME, POINTER_BITS};
 use crate::name::Name;
-use crate::wire::pointer_cache::Source;
 use crate::wire::{BinDecodable, BinDecoder};
-
-/// How many bytes are copied at once for few labels.
-const SHORT: usize = 16;
-
-/// How many bytes are copied at once for more of them.
-const LONG: usize = 1 + MAX_LABEL;
 
 /// A piece of a name: labels up to a zero byte or a pointer (RFC 1035, 4.1.4).
 #[derive(Clone, Copy)]
-struct NamePiece {
+pub(crate) struct NamePiece {
     /// How many bytes its labels are, each with its length before it.
-    len: usize,
+    pub(crate) len: usize,
     /// The offset that its pointer leads to, none where a zero byte ends it.
-    pointer: Option<u16>,
-}
-
-/// A pointer that was followed: the offset that it led to, and how many bytes of labels stand before those there.
-#[derive(Clone, Copy)]
-struct FollowedPointer {
-    target: u16,
-    from: usize,
+    pub(crate) pointer: Option<u16>,
 }
 
 /// Reads the piece at the front of these bytes, where the labels before it took as many.
@@ -81,28 +67,6 @@ fn read_piece(bytes: &[u8], before: usize) -> Result<NamePiece, DecodeError>
         len,
         pointer: Some(target),
     })
-}
-
-/// Copies the first `size` bytes after what is used of the room, as one block of 16 or 64 where both sides have as
-/// many, since a fixed number is copied faster. For none nothing is called.
-#[inline(always)]
-fn copy_labels(bytes: &[u8], size: usize, room: &mut [u8; MAX_LABELS], used: usize)
-    // The bytes to be copied are there.
-    requires there { size ≤ length bytes.now }
-    // After what is used, the room has space for them.
-    requires fits { used + size ≤ MAX_LABELS }
-    ensures { take (used + size) room.new ≡ take used room.old ++ take size bytes.now }
-{
-    if size == 0 {
-        return;
-    }
-    if size <= SHORT && used + SHORT <= MAX_LABELS && SHORT <= bytes.len() {
-        room[used..used + SHORT].copy_from_slice(&bytes[..SHORT]);
-    } else if size <= LONG && used + LONG <= MAX_LABELS && LONG <= bytes.len() {
-        room[used..used + LONG].copy_from_slice(&bytes[..LONG]);
-    } else {
-        room[used..used + size].copy_from_slice(&bytes[..size]);
-    }
 }
 
 /// The labels that a pointer leads to, where they are kept. It stands in a piece of the name that begins at `start`,
@@ -148,139 +112,43 @@ fn kept_labels<'d>(
     Ok(Some(labels))
 }
 
-/// Gathers in `room`, after a name's own labels, those that its pointer leads to, piece by piece, and notes the other
-/// pointers that are followed. Answers how many bytes all labels are, and where those after the last pointer stand.
-fn gather_labels<'a>(
-    decoder: &mut BinDecoder<'a>,
-    room: &mut [u8; MAX_LABELS],
-    first: FollowedPointer,
-    others: &mut Vec<FollowedPointer>,
-) -> Result<(usize, Source<'a>), DecodeError>
-    requires pointed { IsPointed decoder.old first.from first.target }
-    requires own { take first.from room.old
-        ≡ take first.from (drop decoder.old.index decoder.old.bytes) }
-    requires none { others.old.items ≡ [] }
-    ensures read { MatchResult result
-        (λ r. labels_at decoder.old.bytes decoder.old.index decoder.old.index 0
-        ≡ Ok (labels_of (take r.0 room.new), decoder.old.index + first.from + 2))
-        (λ e. Fails e (labels_at decoder.old.bytes decoder.old.index decoder.old.index 0)) }
-    ensures used { IfOk result (λ r. r.0 ≤ MAX_LABELS) }
-    // The bytes gathered are labels of 1 to 63 bytes, each with its length before it.
-    ensures wire { IfOk result (λ r. IsWire (take r.0 room.new)) }
-    // From where a pointer was followed, the labels gathered are those that its target spells.
-    ensures kept { IfOk result
-        (λ r. AreSpelled decoder.old.bytes (take r.0 room.new) (first ∷ others.new.items)) }
-    // The labels that the last pointer led to are where this says.
-    ensures last { IfOk result (λ r.
-        OfLast (IsSource (KeepsAt decoder.old.bytes decoder.old.kept) r.1)
-        (take r.0 room.new) (first ∷ others.new.items)) }
-    // The targets are distinct, and none was kept before; but for the count of pointers followed,
-    // which grows by their number, the decoder stays as it was.
-    ensures followed { Followed (targets (first ∷ others.new.items)) decoder.old decoder.new }
-    // The name passes these targets and, beside them, only offsets that were kept before.
-    ensures these { IfOk result (λ _.
-        PassesThese decoder.old.bytes decoder.old.kept decoder.old.index
-        (targets (first ∷ others.new.items))) }
-    // From each target only kept offsets are passed, and those that were followed after it.
-    ensures later { IfOk result (λ _.
-        PassLater decoder.old.bytes decoder.old.kept (first ∷ others.new.items)) }
-{
-    let mut target = first.target;
-    let mut used = first.from;
-    let mut bytes = decoder.follow(target);
-    'pieces: loop {
-        let piece = read_piece(bytes, used)?;
-        copy_labels(bytes, piece.len, room, used);
-        used += piece.len;
-        let Some(next) = piece.pointer else {
-            return Ok((used, Source::Message(&bytes[..piece.len])));
-        };
-        if let Some(labels) = kept_labels(decoder, next, usize::from(target), used)? {
-            let source = if piece.len == 0 {
-                Source::Kept(next)
-            } else {
-                Source::Nowhere
-            };
-            copy_labels(labels, labels.len(), room, used);
-            return Ok((used + labels.len(), source));
-        }
-        others.push(FollowedPointer {
-            target: next,
-            from: used,
-        })?;
-        bytes = decoder.follow(next);
-        target = next;
-    }
-}
-
-/// Keeps the labels after the pointers that were followed, the last of them first, so that those after a kept one are
-/// kept at any time.
-#[inline(always)]
-fn keep_targets<'a>(
-    decoder: &mut BinDecoder<'a>,
-    labels: &[u8],
-    first: FollowedPointer,
-    others: &[FollowedPointer],
-    last: Source<'a>,
-) -> Result<(), DecodeError>
-    // From where a pointer was followed, the labels are those that its target spells.
-    requires spelled { AreSpelled decoder.old.bytes labels.now (first ∷ others.now) }
-    // The labels that the last pointer led to are where this says.
-    requires last { OfLast (IsSource (KeepsAt decoder.old.bytes decoder.old.kept) last)
-        labels.now (first ∷ others.now) }
-    // From each target only kept offsets are passed, and those that were followed after it.
-    requires later { PassLater decoder.old.bytes decoder.old.kept (first ∷ others.now) }
-    // The targets are distinct, and none is kept yet.
-    requires new { set.len (inserted (targets (first ∷ others.now)) decoder.old.kept)
-        ≡ set.len decoder.old.kept + length (targets (first ∷ others.now)) }
-    ensures ok { OnOk result (decoder.new
-        ≡ record decoder.old { kept = inserted (targets (first ∷ others.now)) decoder.old.kept }) }
-    // A refusal leaves the count of pointers followed as it was.
-    ensures err { OnErr result (decoder.new.jumps ≡ decoder.old.jumps) }
-    ensures only { IsOkUnless result DecodeError.Memory }
-{
-    let mut source = last;
-    for i in (0..others.len()).rev() {
-        let pointer = others[i];
-        decoder.keep(pointer.target, &labels[pointer.from..], source)?;
-        source = Source::Nowhere;
-    }
-    decoder.keep(first.target, &labels[first.from..], source)
-}
-
-/// Reads a name whose own piece ends in a pointer that has to be followed. It stands by itself, since LLVM would else
-/// clear the room of each name, though few use it.
+/// Keeps the labels at an offset that a pointer leads to, after as many bytes of labels as are used. Those that the
+/// pieces there lead to are kept before them. It isn't copied into each `read`, since few names come here.
 ///
 /// # Errors
 ///
-/// What `read` refuses.
-#[inline(always)]
-#[tactic(auto, unfolding(crate::specs::reading::Names::name_at))]
-fn read_following(
-    decoder: &mut BinDecoder<'_>,
-    own: &[u8],
-    first: FollowedPointer,
-) -> Result<Name, DecodeError>
-    requires own { own.now ≡ drop decoder.old.index decoder.old.bytes }
-    requires pointed { IsPointed decoder.old first.from first.target }
-    // These are as of every name: see `read`.
-    ensures read { Reads (λ x. x) decoder.old decoder.new result
-        (name_at decoder.old.bytes decoder.old.index) }
-    ensures passes { IfOk result
-        (λ n. (h : Spelled decoder.old.bytes n.labels decoder.old.index decoder.old.index
-        decoder.new.index)
-        → decoder.new.kept ≡ set.union decoder.old.kept (set.from_list (passed h))) }
-    ensures tracks { Tracks (λ _. decoder.old.index ∷ []) decoder.old decoder.new result }
+/// What reading on from there refuses.
+#[inline(never)]
+fn keep_target(decoder: &mut BinDecoder<'_>, target: u16, used: usize) -> Result<(), DecodeError>
+    requires few { used ≤ MAX_LABELS }
+    requires new { IsNewTarget decoder.old target }
+    ensures read { MatchResult result (λ _. Fit decoder.old.bytes target used)
+        (λ e. Fails e (labels_at decoder.old.bytes target target used)) }
+    ensures kept { OnOk result (IsAdded target decoder.old decoder.new) }
+    ensures bounded { OnErr result (IsBounded decoder.old decoder.new) }
 {
-    let end = decoder.index() + first.from + 2;
-    let mut room = [0; MAX_LABELS];
-    copy_labels(own, first.from, &mut room, 0);
-    let mut others = Vec::new(decoder.allocator());
-    let (used, last) = gather_labels(decoder, &mut room, first, &mut others)?;
-    let labels = Labels::from_front(decoder.allocator(), &room, used, true)?;
-    keep_targets(decoder, &room[..used], first, &others, last)?;
-    decoder.move_to(end);
-    Ok(Name { labels })
+    let mut at = target;
+    let mut before = used;
+    // The pieces whose pointer leads to labels that aren't kept yet.
+    let mut waiting = Vec::new(decoder.allocator());
+    let mut piece = read_piece(decoder.follow(at), before)?;
+    'pieces: while let Some(next) = piece.pointer {
+        let all = before + piece.len;
+        if kept_labels(decoder, next, usize::from(at), all)?.is_some() {
+            break;
+        }
+        waiting.push((at, piece))?;
+        at = next;
+        before = all;
+        piece = read_piece(decoder.follow(at), before)?;
+    }
+    'kept: while let Some((above, longer)) = waiting.pop() {
+        decoder.keep(at, piece)?;
+        at = above;
+        piece = longer;
+    }
+    decoder.keep(at, piece)?;
+    Ok(())
 }
 
 impl BinDecodable for Name {
@@ -309,19 +177,23 @@ impl BinDecodable for Name {
         // The same, said as of every read: see `BinDecodable::read`.
         ensures tracks { Tracks (λ _. decoder.old.index ∷ []) decoder.old decoder.new result }
     {
-        let first = decoder.index();
+        let alloc = decoder.allocator();
+        let start = decoder.index();
         let own = decoder.rest();
-        let NamePiece { len, pointer } = read_piece(own, 0)?;
-        let Some(target) = pointer else {
-            let labels = Labels::from_front(decoder.allocator(), own, len, true)?;
-            decoder.move_to(first + len + 1);
+        let piece = read_piece(own, 0)?;
+        let Some(target) = piece.pointer else {
+            let labels = Labels::from_front(alloc, own, piece.len, true)?;
+            decoder.move_to(start + piece.len + 1);
             return Ok(Name { labels });
         };
-        let Some(kept) = kept_labels(decoder, target, first, len)? else {
-            return read_following(decoder, own, FollowedPointer { target, from: len });
-        };
-        let labels = Labels::from_front_and(decoder.allocator(), own, len, kept, true)?;
-        decoder.move_to(first + len + 2);
-        Ok(Name { labels })
+        // Labels that aren't kept yet are at the second look.
+        'look: loop {
+            if let Some(kept) = kept_labels(decoder, target, start, piece.len)? {
+                let labels = Labels::from_front_and(alloc, own, piece.len, kept, true)?;
+                decoder.move_to(start + piece.len + 2);
+                return Ok(Name { labels });
+            }
+            keep_target(decoder, target, piece.len)?;
+        }
     }
 }

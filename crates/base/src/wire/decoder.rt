@@ -4,15 +4,16 @@ ghost use Rattle.base.specs.declared.limits.TheConstants.{POINTER_LIMIT};
 ghost use Rattle.std.specs.Prelude.{◌≡◌, ℕ, true, false, ◌+◌, ◌-◌, ◌^◌, ◌<◌, ◌≤◌, length, min, drop, nat_le, is_some, IfSome, OnOk, OnErr, IsOkUnless, []};
 ghost use Rattle.std.specs.FinSet as set;
 ghost use Rattle.std.specs.Int.{w16, w32};
-ghost use Rattle.base.specs.reading.Passing.{IsClosed, PassesKept};
-ghost use Rattle.base.specs.reading.Pointers.{IsKept, IsSource, KeepsAt};
+ghost use Rattle.base.specs.reading.Passing.{IsClosed};
+ghost use Rattle.base.specs.reading.Pointers.{CanKeep, IsKept};
 ghost use Rattle.base.specs.reading.Reader.{begun};
 ghost use Rattle.base.specs.reading.Reading.{Reads, byte_at, bytes_at, number_at};
 ghost use Rattle.base.specs.reading.Tracks.{IsCounted, Tracks};
 
 use crate::error::DecodeError;
 use crate::limits::POINTER_LIMIT;
-use crate::wire::pointer_cache::{PointerCache, Source};
+use crate::name::reading::NamePiece;
+use crate::wire::pointer_cache::PointerCache;
 use std::alloc::Global;
 use std::marker::Model;
 
@@ -151,28 +152,20 @@ impl<'a> BinDecoder<'a> {
         self.cache.find(target)
     }
 
-    /// Keeps the labels at an offset that a pointer led to, which may be in the buffer, or kept for another offset.
+    /// Keeps the labels at an offset that a pointer led to: those of the piece there, and then those that its pointer
+    /// leads to.
     #[inline(always)]
-    pub(crate) fn keep(
-        &mut self,
-        target: u16,
-        labels: &[u8],
-        source: Source<'a>,
-    ) -> Result<(), DecodeError>
-        // These are the labels that are spelled at the offset.
-        requires kept { IsKept self.old.bytes target labels.now }
-        // They aren't kept yet.
-        requires new { set.contains self.old.kept target ≡ false }
-        // What is spelled there passes kept offsets alone.
-        requires after { PassesKept self.old.bytes self.old.kept target }
-        requires source { IsSource (KeepsAt self.old.bytes self.old.kept) source labels.now }
+    pub(crate) fn keep(&mut self, target: u16, piece: NamePiece) -> Result<(), DecodeError>
+        requires { CanKeep self.old target piece }
         ensures ok { OnOk result (self.new
             ≡ record self.old { kept = set.insert self.old.kept target }) }
         ensures err { OnErr result (self.new ≡ self.old) }
         ensures only { IsOkUnless result DecodeError.Memory }
     {
         let most = self.buffer.len().min(POINTER_LIMIT) as u16;
-        self.cache.insert(target, labels, source, most)?;
+        let bytes = &self.buffer[usize::from(target)..];
+        self.cache
+            .insert(target, &bytes[..piece.len], piece.pointer, most)?;
         Ok(())
     }
 

@@ -1,11 +1,13 @@
 //! The labels at the offsets that compression pointers led to (RFC 1035, 4.1.4).
 
 ghost use Rattle.base.specs.declared.limits.TheConstants.{MAX_LABELS};
-ghost use Rattle.std.specs.Prelude.{◌≡◌, ◌≢◌, ℕ, ◌+◌, ◌<◌, ◌≤◌, None, Some, All, length, get_or, IfSome, OnErr, OnOk};
+ghost use Rattle.std.specs.Prelude.{◌≡◌, ◌≢◌, ℕ, List, ◌+◌, ◌++◌, ◌<◌, ◌≤◌, None, Some, All, length, get_or, IfOk, IfSome, OnErr, OnOk, option_map};
 ghost use Rattle.std.specs.FinMap as map;
+ghost use Rattle.base.specs.declared.wire.pointer_cache.TargetLabels.TheVariants.{Copied};
+ghost use Rattle.base.specs.declared.wire.pointer_cache.TheConstants.{ROOM};
 ghost use Rattle.std.specs.Option.{option_or};
 ghost use Rattle.std.specs.Ordering.{nat_cmp};
-ghost use Rattle.base.specs.reading.Pointers.{IsInside, IsLonger, IsSource, IsTargetThere, target_entries, target_labels, labels_from, labels_now, placed};
+ghost use Rattle.base.specs.reading.Pointers.{labels_from, labels_in, target_entries, first_of, AreThere, IsInside, IsLonger, IsTargetThere, cache_of, kept_after, rest_labels, with_copied, labels_now, target_labels};
 
 mod copied;
 
@@ -19,17 +21,6 @@ const ROOM: usize = 16;
 
 /// How many places are made at once.
 const STEP: usize = 256;
-
-/// Where labels that are to be kept are already.
-#[derive(Clone, Copy)]
-pub(crate) enum Source<'a> {
-    /// Nowhere as a whole.
-    Nowhere,
-    /// In the message, as they are.
-    Message(&'a [u8]),
-    /// Among those that are kept: for this offset.
-    Kept(u16),
-}
 
 /// Where the labels at a target are, each with its length before it.
 #[derive(Clone, Copy)]
@@ -47,33 +38,36 @@ struct Target<'a> {
     labels: TargetLabels<'a>,
 }
 
+/// The first targets, as many as are counted. What stands after them in the array has no meaning.
+#[derive(Clone, Copy)]
+struct FirstTargets<'a> {
+    count: usize,
+    all: [Target<'a>; ROOM],
+}
+
 /// Labels that were copied.
 #[derive(Drop)]
 struct Copies {
     bytes: CopiedLabels,
-    /// By offset, the place of the labels there, and 0 where there is none.
+    /// By the offset of each target that isn't among the first, the place of the labels there, and else 0.
     places: Vec<usize>,
 }
 
 /// The labels at each offset that a pointer led to. The first targets take no memory, unless more than 256 bytes of
-/// labels are copied. Where there are more of them, each is found by its offset, without a search, since there are few
-/// that a pointer can name.
+/// labels are copied. Each target after them is found by its offset, without a search, since there are few that a
+/// pointer can name.
 #[derive(Drop)]
 pub(crate) struct PointerCache<'a> {
-    count: usize,
-    /// The targets, as long as there is room. What stands after them in the array has no meaning.
-    first: [Target<'a>; ROOM],
-    /// Whether there were more, and each has its place instead.
-    moved: bool,
+    first: FirstTargets<'a>,
     copies: Copies,
 }
 
 impl<'a> Model for PointerCache<'a> {
-    ghost use Rattle.std.specs.Prelude.{◌≡◌, ◌≤◌, ℕ, true, false, List, [], All, length, take};
+    ghost use Rattle.std.specs.Prelude.{◌≡◌, ◌≤◌, ℕ, List, All, length};
     ghost use Rattle.std.specs.Coded.{coded_ℕ, coded_list};
     ghost use Rattle.std.specs.FinMap as map;
     ghost use Rattle.std.specs.Ordering.{nat_cmp};
-    ghost use Rattle.base.specs.reading.Pointers.{IsInside, IsTargetThere, cache_of};
+    ghost use Rattle.base.specs.reading.Pointers.{IsInside, IsTargetThere, cache_of, first_of};
     ghost use Rattle.base.specs.declared.wire.pointer_cache.TheConstants.{ROOM};
 
     ghost Value = { map.FinMap nat_cmp (List ℕ) };
@@ -81,13 +75,11 @@ impl<'a> Model for PointerCache<'a> {
     ghost coded = { map.code coded_ℕ (coded_list coded_ℕ) };
 
     ghost view = { λ c.
-        cache_of c.copies.bytes c.copies.places.items (take c.count c.first) };
+        cache_of c.copies.bytes c.copies.places.items (first_of c.first) };
 
-    ghost invariant = { λ c. ((c.count ≤ ROOM)
-        × ((length c.first ≡ ROOM) × ((c.moved ≡ true → c.count ≡ 0)
-        × (c.moved ≡ false → c.copies.places.items ≡ []))))
+    ghost invariant = { λ c. ((c.first.count ≤ ROOM) × (length c.first.all ≡ ROOM))
         × (All (IsInside c.copies.bytes) c.copies.places.items
-        × All (IsTargetThere c.copies.bytes) (take c.count c.first)) };
+        × All (IsTargetThere c.copies.bytes) (first_of c.first)) };
 }
 
 /// The labels at a place among copied ones.
@@ -100,32 +92,41 @@ fn copied_at(copied: &[u8], place: usize) -> &[u8]
     &copied[place..place + len]
 }
 
-/// The labels at an offset, if it is one of these targets.
-fn find_among<'d>(targets: &'d [Target<'d>], copied: &'d [u8], offset: u16) -> Option<&'d [u8]>
-    requires { All (IsTargetThere copied.now) targets.now }
-    ensures { labels_now result ≡ map.find nat_cmp offset (target_entries copied.now targets.now) }
+/// The place of an offset, and 0 for none.
+#[inline(always)]
+fn place_at(places: &[usize], offset: usize) -> usize
+    ensures { result ≡ get_or places.now offset 0 }
 {
-    for target in targets {
+    match places.get(offset) {
+        Some(place) => *place,
+        None => 0,
+    }
+}
+
+/// Where the labels at an offset are: it may have a place, or be one of the first targets.
+#[inline(always)]
+fn find_target<'a>(
+    places: &[usize],
+    first: &FirstTargets<'a>,
+    offset: u16,
+) -> Option<TargetLabels<'a>>
+    requires { first.now.count ≤ ROOM }
+    // Whatever was copied, they are those that are kept for the offset.
+    ensures found { (copied : List ℕ) → option_map (target_labels copied) result
+        ≡ map.get (cache_of copied places.now (first_of first.now)) offset }
+    ensures there { (copied : List ℕ) → All (IsInside copied) places.now
+        → All (IsTargetThere copied) (first_of first.now) → IfSome result (AreThere copied) }
+{
+    let place = place_at(places, usize::from(offset));
+    if place != 0 {
+        return Some(TargetLabels::Copied(place));
+    }
+    for target in &first.all[..first.count] {
         if target.offset == offset {
-            return Some(match target.labels {
-                TargetLabels::Lent(labels) => labels,
-                TargetLabels::Copied(place) => copied_at(copied, place),
-            });
+            return Some(target.labels);
         }
     }
     None
-}
-
-/// The labels at an offset, if it has a place.
-fn find_by_offset<'d>(places: &[usize], copied: &'d [u8], offset: u16) -> Option<&'d [u8]>
-    requires { All (IsInside copied.now) places.now }
-    ensures { labels_now result ≡ placed copied.now places.now offset }
-{
-    let place = *places.get(usize::from(offset))?;
-    if place == 0 {
-        return None;
-    }
-    Some(copied_at(copied, place))
 }
 
 /// Makes places up to an offset, the new ones without labels, with room for as many offsets as there may be. They are
@@ -149,88 +150,64 @@ fn reach(places: &mut Vec<usize>, offset: usize, most: usize) -> Result<(), Allo
     Ok(())
 }
 
-/// Gives a target a place, and copies its labels if they are lent. Each caller has its own copy of this function too.
+/// Copies labels of the message and those at a place after them, and answers the place of the copy.
+fn append_copied(own: &[u8], place: usize, bytes: &mut CopiedLabels) -> Result<usize, AllocError>
+    requires some { place ≢ 0 }
+    requires there { IsInside bytes.old place }
+    requires short { length (own.now ++ labels_from bytes.old place) ≤ MAX_LABELS }
+    ensures place { IfOk result (λ place. place ≡ length bytes.old + 1) }
+    ensures ok { OnOk result (bytes.new
+        ≡ with_copied bytes.old (own.now ++ labels_from bytes.old place)) }
+    ensures err { OnErr result (bytes.new ≡ bytes.old) }
+{
+    let mut room = [0; MAX_LABELS];
+    let labels = copied_at(bytes.as_slice(), place);
+    let len = labels.len();
+    room[..len].copy_from_slice(labels);
+    bytes.append(own, &room[..len])
+}
+
+/// Where labels of the message are with the rest of them, if there is any: where the rest is if that is all, and else in
+/// a copy of both.
 #[inline(always)]
-fn place_one(target: &Target<'_>, copies: &mut Copies, most: u16) -> Result<(), AllocError>
-    requires there { IsTargetThere copies.old.bytes target.now }
-    requires inside { All (IsInside copies.old.bytes) copies.old.places.items }
-    // Its labels are found by its offset.
-    ensures here { OnOk result
-        (placed copies.new.bytes copies.new.places.items target.now.offset
-        ≡ Some (target_labels copies.old.bytes target.now.labels)) }
-    // Those of other offsets are found as before.
-    ensures others { (q : ℕ) → q ≢ target.now.offset
-        → placed copies.new.bytes copies.new.places.items q
-        ≡ placed copies.old.bytes copies.old.places.items q }
-    ensures inside { All (IsInside copies.new.bytes) copies.new.places.items }
-    ensures longer { IsLonger copies.old.bytes copies.new.bytes }
-    ensures err { (q : ℕ) → OnErr result
-        (placed copies.new.bytes copies.new.places.items q
-        ≡ placed copies.old.bytes copies.old.places.items q) }
+fn joined<'a>(
+    own: &'a [u8],
+    rest: Option<TargetLabels<'a>>,
+    bytes: &mut CopiedLabels,
+) -> Result<TargetLabels<'a>, AllocError>
+    requires there { IfSome rest (AreThere bytes.old) }
+    requires short { length (own.now ++ rest_labels bytes.old rest) ≤ MAX_LABELS }
+    ensures ok { IfOk result (λ labels. target_labels bytes.new labels
+        ≡ own.now ++ rest_labels bytes.old rest.entry) }
+    ensures there { IfOk result (AreThere bytes.new) }
+    ensures longer { IsLonger bytes.old bytes.new }
+    ensures err { OnErr result (bytes.new ≡ bytes.old) }
 {
-    let offset = usize::from(target.offset);
-    reach(&mut copies.places, offset, usize::from(most))?;
-    let place = match target.labels {
-        TargetLabels::Lent(labels) => copies.bytes.append(labels)?,
-        TargetLabels::Copied(place) => place,
+    let Some(rest) = rest else {
+        return Ok(TargetLabels::Lent(own));
     };
-    copies.places[offset] = place;
-    Ok(())
-}
-
-/// Gives an offset a place: for a copy of its labels, or that of another offset with the same labels.
-fn place_labels(
-    offset: u16,
-    labels: &[u8],
-    other: Option<u16>,
-    copies: &mut Copies,
-    most: u16,
-) -> Result<(), AllocError>
-    requires short { length labels.now ≤ MAX_LABELS }
-    requires other { IfSome other (λ q.
-        placed copies.old.bytes copies.old.places.items q ≡ Some labels.now) }
-    requires inside { All (IsInside copies.old.bytes) copies.old.places.items }
-    // The labels are found by the offset.
-    ensures here { OnOk result
-        (placed copies.new.bytes copies.new.places.items offset ≡ Some labels.now) }
-    // Those of other offsets are found as before.
-    ensures others { (q : ℕ) → q ≢ offset
-        → placed copies.new.bytes copies.new.places.items q
-        ≡ placed copies.old.bytes copies.old.places.items q }
-    ensures inside { All (IsInside copies.new.bytes) copies.new.places.items }
-    ensures longer { IsLonger copies.old.bytes copies.new.bytes }
-    ensures err { (q : ℕ) → OnErr result
-        (placed copies.new.bytes copies.new.places.items q
-        ≡ placed copies.old.bytes copies.old.places.items q) }
-{
-    let labels = match other {
-        Some(other) => TargetLabels::Copied(copies.places[usize::from(other)]),
-        None => TargetLabels::Lent(labels),
-    };
-    place_one(&Target { offset, labels }, copies, most)
-}
-
-/// Gives each of these targets a place.
-fn place_all(targets: &[Target<'_>], copies: &mut Copies, most: u16) -> Result<(), AllocError>
-    requires there { All (IsTargetThere copies.old.bytes) targets.now }
-    requires inside { All (IsInside copies.old.bytes) copies.old.places.items }
-    // By the places alone the same is found as among the targets and then by the places before.
-    ensures ok { (q : ℕ) → OnOk result (placed copies.new.bytes copies.new.places.items q
-        ≡ option_or (map.find nat_cmp q (target_entries copies.old.bytes targets.now))
-        (placed copies.old.bytes copies.old.places.items q)) }
-    // Among the targets and then by the places nothing else is found than before.
-    ensures kept { (q : ℕ)
-        → option_or (map.find nat_cmp q (target_entries copies.old.bytes targets.now))
-        (placed copies.new.bytes copies.new.places.items q)
-        ≡ option_or (map.find nat_cmp q (target_entries copies.old.bytes targets.now))
-        (placed copies.old.bytes copies.old.places.items q) }
-    ensures inside { All (IsInside copies.new.bytes) copies.new.places.items }
-    ensures longer { IsLonger copies.old.bytes copies.new.bytes }
-{
-    for i in (0..targets.len()).rev() {
-        place_one(&targets[i], copies, most)?;
+    if own.is_empty() {
+        return Ok(rest);
     }
-    Ok(())
+    let place = match rest {
+        TargetLabels::Lent(labels) => bytes.append(own, labels)?,
+        TargetLabels::Copied(place) => append_copied(own, place, bytes)?,
+    };
+    Ok(TargetLabels::Copied(place))
+}
+
+/// A place for labels, which are copied if they are lent.
+fn place_of(labels: TargetLabels<'_>, bytes: &mut CopiedLabels) -> Result<usize, AllocError>
+    requires there { AreThere bytes.old labels }
+    ensures place { IfOk result (λ place. AreThere bytes.new (Copied place)
+        × (labels_from bytes.new place ≡ target_labels bytes.old labels.entry)) }
+    ensures longer { IsLonger bytes.old bytes.new }
+    ensures err { OnErr result (bytes.new ≡ bytes.old) }
+{
+    match labels {
+        TargetLabels::Lent(labels) => bytes.append(labels, &[]),
+        TargetLabels::Copied(place) => Ok(place),
+    }
 }
 
 impl<'a> PointerCache<'a> {
@@ -243,9 +220,10 @@ impl<'a> PointerCache<'a> {
             labels: TargetLabels::Copied(0),
         };
         PointerCache {
-            count: 0,
-            first: [unused; ROOM],
-            moved: false,
+            first: FirstTargets {
+                count: 0,
+                all: [unused; ROOM],
+            },
             copies: Copies {
                 bytes: CopiedLabels::new(alloc),
                 places: Vec::new(alloc),
@@ -257,18 +235,14 @@ impl<'a> PointerCache<'a> {
     pub(crate) fn find(&self, offset: u16) -> Option<&[u8]>
         ensures { labels_now result ≡ map.get self.now offset }
     {
-        if self.moved {
-            return find_by_offset(&self.copies.places, self.copies.bytes.as_slice(), offset);
+        match find_target(&self.copies.places, &self.first, offset)? {
+            TargetLabels::Lent(labels) => Some(labels),
+            TargetLabels::Copied(place) => Some(copied_at(self.copies.bytes.as_slice(), place)),
         }
-        find_among(
-            &self.first[..self.count],
-            self.copies.bytes.as_slice(),
-            offset,
-        )
     }
 
-    /// Keeps the labels at an offset. Those of the message aren't copied as long as there is room for their target
-    /// among the first, and those that are kept for another offset aren't where each target has its place. Room for
+    /// Keeps for an offset the labels of the message there, with those that are kept for the offset `after`, if any.
+    /// Only where there are both are they copied, as long as there is room for their target among the first. Room for
     /// offsets up to `most` is made at once.
     ///
     /// # Errors
@@ -277,59 +251,34 @@ impl<'a> PointerCache<'a> {
     pub(crate) fn insert(
         &mut self,
         offset: u16,
-        labels: &[u8],
-        source: Source<'a>,
+        own: &'a [u8],
+        after: Option<u16>,
         most: u16,
     ) -> Result<(), AllocError>
         // No labels are kept for the offset yet.
         requires new { map.get self.old offset ≡ None }
-        requires short { length labels.now ≤ MAX_LABELS }
-        requires source { IsSource (λ other xs. map.get self.old other ≡ Some xs) source
-            labels.now }
-        ensures ok { OnOk result (self.new ≡ map.insert self.old offset labels.now) }
+        requires short { length (own.now ++ kept_after self.old after) ≤ MAX_LABELS }
+        ensures ok { OnOk result (self.new
+            ≡ map.insert self.old offset (own.now ++ kept_after self.old after)) }
         ensures err { OnErr result (self.new ≡ self.old) }
     {
-        if !self.moved && self.count < ROOM {
-            let labels = match source {
-                Source::Message(labels) => TargetLabels::Lent(labels),
-                _ => TargetLabels::Copied(self.copies.bytes.append(labels)?),
-            };
-            self.first[self.count] = Target { offset, labels };
-            self.count += 1;
+        let rest = match after {
+            Some(after) => find_target(&self.copies.places, &self.first, after),
+            None => None,
+        };
+        let labels = joined(own, rest, &mut self.copies.bytes)?;
+        if self.first.count < ROOM {
+            self.first.all[self.first.count] = Target { offset, labels };
+            self.first.count += 1;
             return Ok(());
         }
-        let other = match source {
-            Source::Kept(other) => Some(other),
-            _ => None,
-        };
-        self.insert_place(offset, labels, other, most)
-    }
-
-    /// Gives an offset a place, after each of the first targets has got one, which most messages never need: for a copy
-    /// of its labels, or that of another offset with the same labels.
-    #[inline(never)]
-    fn insert_place(
-        &mut self,
-        offset: u16,
-        labels: &[u8],
-        other: Option<u16>,
-        most: u16,
-    ) -> Result<(), AllocError>
-        requires new { map.get self.old offset ≡ None }
-        requires short { length labels.now ≤ MAX_LABELS }
-        requires other { IfSome other (λ q. map.get self.old q ≡ Some labels.now) }
-        ensures ok { OnOk result (self.new ≡ map.insert self.old offset labels.now) }
-        ensures err { OnErr result (self.new ≡ self.old) }
-    {
-        if !self.moved {
-            let first = self.first;
-            if let Err(e) = place_all(&first[..self.count], &mut self.copies, most) {
-                self.copies.places.clear();
-                return Err(e);
-            }
-            self.count = 0;
-            self.moved = true;
-        }
-        place_labels(offset, labels, other, &mut self.copies, most)
+        let place = place_of(labels, &mut self.copies.bytes)?;
+        reach(
+            &mut self.copies.places,
+            usize::from(offset),
+            usize::from(most),
+        )?;
+        self.copies.places[usize::from(offset)] = place;
+        Ok(())
     }
 }

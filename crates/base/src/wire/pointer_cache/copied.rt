@@ -1,7 +1,8 @@
 //! The labels that were copied.
 
 ghost use Rattle.base.specs.declared.limits.TheConstants.{MAX_LABELS};
-ghost use Rattle.std.specs.Prelude.{◌≡◌, ◌+◌, ◌++◌, ◌∷◌, ◌≤◌, [], length, IfOk, OnErr, OnOk};
+ghost use Rattle.std.specs.Prelude.{◌≡◌, ◌+◌, ◌++◌, ◌≤◌, [], length, IfOk, OnErr, OnOk};
+ghost use Rattle.base.specs.reading.Pointers.{with_copied};
 
 use std::alloc::{AllocError, Global};
 use std::marker::Model;
@@ -59,23 +60,25 @@ impl CopiedLabels {
         }
     }
 
-    /// Copies labels after those that were copied before, and answers their place.
+    /// Copies labels in two parts after those that were copied before, and answers their place.
     ///
     /// # Errors
     ///
     /// If memory runs out, with the labels as they were.
-    pub(super) fn append(&mut self, labels: &[u8]) -> Result<usize, AllocError>
-        requires { length labels.now ≤ MAX_LABELS }
+    pub(super) fn append(&mut self, own: &[u8], rest: &[u8]) -> Result<usize, AllocError>
+        requires { length (own.now ++ rest.now) ≤ MAX_LABELS }
         ensures place { IfOk result (λ place. place ≡ length self.old + 1) }
-        ensures ok { OnOk result (self.new ≡ self.old ++ length labels.now ∷ labels.now) }
+        ensures ok { OnOk result (self.new ≡ with_copied self.old (own.now ++ rest.now)) }
         ensures err { OnErr result (self.new ≡ self.old) }
     {
-        let len = labels.len();
+        let len = own.len() + rest.len();
         if self.all.is_empty() {
             let place = self.used + 1;
             if place + len <= ROOM {
+                let middle = place + own.len();
                 self.first[self.used] = len as u8;
-                self.first[place..place + len].copy_from_slice(labels);
+                self.first[place..middle].copy_from_slice(own);
+                self.first[middle..middle + rest.len()].copy_from_slice(rest);
                 self.used = place + len;
                 return Ok(place);
             }
@@ -85,7 +88,8 @@ impl CopiedLabels {
         self.all.reserve(1 + len)?;
         self.all.push_reserved(len as u8);
         let place = self.all.len();
-        self.all.extend_from_slice(labels)?;
+        self.all.extend_from_slice(own)?;
+        self.all.extend_from_slice(rest)?;
         Ok(place)
     }
 }
