@@ -1,19 +1,14 @@
 -- The table of suffixes: a list in order of offset, and an ordered index of it.
 use Rattle.base.specs.declared.limits.TheConstants.{POINTER_LIMIT}
 use Rattle.std.specs.Prelude.{◌≡◌, ◌≢◌, ℕ, ◌<◌, ◌++◌, List, Option, Some, Vec, All}
-use Rattle.std.specs.BTreeMap.{BTreeMap, get_by}
-use Rattle.std.specs.Cmp.Lexicographic.{slice_cmp}
+use Rattle.std.specs.BTreeMap.{BTreeMap}
 use Rattle.std.specs.Int.{w32, to_be_bytes}
 use Rattle.std.specs.List.{AllPairs}
-use Rattle.std.specs.Ordering.{nat_cmp}
 use Rattle.std.specs.declared.alloc.Global.{Global}
+use Rattle.base.specs.Keys.{number_at}
 use Rattle.base.specs.names.Labels.{wire_of, IsLabelRun}
 use Rattle.base.specs.writing.State.{Stored, front_number}
 use Rattle.base.specs.writing.Written.{found_in}
-
--- the offset that the index has at a key
-abbrev pub offset_at : BTreeMap (Vec ℕ Global) ℕ → List ℕ → Option ℕ
-offset_at index key = get_by (λ k. slice_cmp nat_cmp key k.items) index
 
 -- the key of a suffix of these bytes: the number of the first of them, the highest byte first, and all of them
 abbrev pub index_key : List ℕ → List ℕ
@@ -21,7 +16,7 @@ index_key bytes = to_be_bytes w32 (front_number bytes) ++ bytes
 
 -- the offset that the index has for a suffix of these bytes
 abbrev pub offset_in : BTreeMap (Vec ℕ Global) ℕ → List ℕ → Option ℕ
-offset_in index bytes = offset_at index (index_key bytes)
+offset_in index bytes = number_at index (index_key bytes)
 
 -- The first suffixes stand in a list alone, the others in a second one with an index of it; all stand in order of
 -- offset, each once. The index finds each of the others at its bytes, and nothing else.
