@@ -14,5 +14,5 @@ keys_match f g a b = both_tied _ _ (nat_cmp (f a) (f b)) (nat_cmp (g a) (g b))
     (unsigned_ties (f a) (f b)) (unsigned_ties (g a) (g b))
 
 -- the number that an index has at a key
-abbrev pub number_at : BTreeMap (Vec ℕ Global) ℕ → List ℕ → Option ℕ
-number_at index key = get_by (λ k. slice_cmp nat_cmp key k.items) index
+abbrev pub indexed_at : BTreeMap (Vec ℕ Global) ℕ → List ℕ → Option ℕ
+indexed_at index key = get_by (λ k. slice_cmp nat_cmp key k.items) index

@@ -24,7 +24,7 @@ use Rattle.base.specs.names.NameOrder.{same_labels}
 use Rattle.base.specs.names.NameOrderLaws.{labels_decide}
 use Rattle.base.specs.writing.SaysName.{found_as, found_past, found_among, none_found}
 use Rattle.base.specs.writing.State.{Stored}
-use Rattle.base.specs.Keys.{number_at}
+use Rattle.base.specs.Keys.{indexed_at}
 use Rattle.base.specs.writing.Suffixes.{index_key, offset_in, IsTable}
 use Rattle.base.specs.writing.Written.{found_in}
 use Rattle.base.proofs.names.LabelLemmas.{labels_of-wire_of, labels_of_is}
@@ -95,7 +95,7 @@ module _ {bs : List ℕ} {w : Option ℕ} (m n : BTreeMap (Vec ℕ Global) ℕ) 
     (key : bs ≡ index_key (wire_of u.labels))
     (h : UpdatesBy (λ x y. slice_cmp nat_cmp x.items y.items) (λ k. slice_cmp nat_cmp bs k.items) m n w) where
   here : offset_in n (wire_of u.labels) ≡ w
-  here = ap (number_at n) (sym key) ∙ h.1
+  here = ap (indexed_at n) (sym key) ∙ h.1
 
   apart : (cs : List ℕ) → cs ≢ bs → AreApart (λ (k : Vec ℕ Global). is_eq (slice_cmp nat_cmp bs k.items))
       (λ k. is_eq (slice_cmp nat_cmp cs k.items))

@@ -5,7 +5,7 @@ use Rattle.std.specs.BTreeMap.{BTreeMap}
 use Rattle.std.specs.Int.{w32, to_be_bytes}
 use Rattle.std.specs.List.{AllPairs}
 use Rattle.std.specs.declared.alloc.Global.{Global}
-use Rattle.base.specs.Keys.{number_at}
+use Rattle.base.specs.Keys.{indexed_at}
 use Rattle.base.specs.names.Labels.{wire_of, IsLabelRun}
 use Rattle.base.specs.writing.State.{Stored, front_number}
 use Rattle.base.specs.writing.Written.{found_in}
@@ -16,7 +16,7 @@ index_key bytes = to_be_bytes w32 (front_number bytes) ++ bytes
 
 -- the offset that the index has for a suffix of these bytes
 abbrev pub offset_in : BTreeMap (Vec ℕ Global) ℕ → List ℕ → Option ℕ
-offset_in index bytes = number_at index (index_key bytes)
+offset_in index bytes = indexed_at index (index_key bytes)
 
 -- The first suffixes stand in a list alone, the others in a second one with an index of it; all stand in order of
 -- offset, each once. The index finds each of the others at its bytes, and nothing else.

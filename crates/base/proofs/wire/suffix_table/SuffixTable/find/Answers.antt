@@ -2,7 +2,7 @@ use Rattle.std.proofs.Common.{rules, ◌≡◌, ◌≢◌, ◌∙◌, Some, ap, 
 use Rattle.std.proofs.lemmas.Bool.{false≢true}
 use Rattle.base.specs.names.Labels.{labels_of}
 use Rattle.base.specs.writing.SaysName.{found_as, none_found}
-use Rattle.base.specs.Keys.{number_at}
+use Rattle.base.specs.Keys.{indexed_at}
 use Rattle.base.specs.writing.Suffixes.{offset_in}
 use Rattle.base.specs.writing.Written.{found_in}
 use Rattle.base.proofs.writing.SuffixLemmas.{found_first, found_later, found_at, found_end, found_near}
@@ -40,7 +40,7 @@ returns-then-is_empty-clause-found c = found_as _ _ (sym (returns-then-is_empty-
 
 pub returns-clause-value : goal.returns-clause-value
 returns-clause-value c =
-    c.copied.ensures ∙ c.get.ensures.value ∙ ap (number_at c.self.inside.index) c.key_into-len.ensures.key
+    c.copied.ensures ∙ c.get.ensures.value ∙ ap (indexed_at c.self.inside.index) c.key_into-len.ensures.key
     ∙ ap (offset_in c.self.inside.index) (sym c.requires.whole) ∙ c.self.invariant.finds _
     ∙ sym (c.loop-suffix.invariant ∙ found_end c.self.inside.first.items c.self.inside.others.items _ _ (omega arith))
 
