@@ -76,39 +76,6 @@ impl Labels {
         })
     }
 
-    /// The first `used` of these bytes.
-    ///
-    /// # Errors
-    ///
-    /// If memory runs out.
-    #[inline(always)]
-    pub(crate) fn from_front(
-        alloc: Global,
-        bytes: &[u8],
-        used: usize,
-        is_fqdn: bool,
-    ) -> Result<Labels, AllocError>
-        requires { used ≤ length bytes.now }
-        ensures { IfOk result (λ o. o ≡ record { items = take used bytes.now; is_fqdn = is_fqdn }) }
-    {
-        if used <= INLINE_LABELS && bytes.len() >= INLINE_LABELS {
-            return Ok(Labels {
-                storage: Storage::Inline(InlineLabels::from_front(alloc, bytes, used, is_fqdn)),
-            });
-        }
-        if used <= INLINE_LABELS {
-            return Labels::from_slice(alloc, &bytes[..used], is_fqdn);
-        }
-        let mut own = Vec::with_capacity(alloc, used.max(HEAP_ROOM))?;
-        own.extend_from_slice(&bytes[..used])?;
-        Ok(Labels {
-            storage: Storage::Heap {
-                is_fqdn,
-                bytes: own,
-            },
-        })
-    }
-
     /// The first `used` bytes of `bytes`, then `others`.
     ///
     /// # Errors
@@ -126,28 +93,33 @@ impl Labels {
         ensures { IfOk result (λ o. o
             ≡ record { items = take used bytes.now ++ others.now; is_fqdn = is_fqdn }) }
     {
-        if others.is_empty() {
-            return Labels::from_front(alloc, bytes, used, is_fqdn);
-        }
-        if used == 0 {
-            return Labels::from_slice(alloc, others, is_fqdn);
-        }
-        let len = used + others.len();
-        if len <= INLINE_LABELS {
+        if used + others.len() <= INLINE_LABELS {
             return Ok(Labels {
                 storage: Storage::Inline(InlineLabels::from_front_and(
                     alloc, bytes, used, others, is_fqdn,
                 )),
             });
         }
-        let mut both = Vec::with_capacity(alloc, len.max(HEAP_ROOM))?;
-        both.extend_from_slice(&bytes[..used])?;
-        both.extend_from_slice(others)?;
+        Labels::on_heap(alloc, &bytes[..used], others, is_fqdn)
+    }
+
+    /// Some bytes, then others, in memory of their own. It isn't copied into each reader of names, since few are so long.
+    #[inline(never)]
+    fn on_heap(
+        alloc: Global,
+        first: &[u8],
+        others: &[u8],
+        is_fqdn: bool,
+    ) -> Result<Labels, AllocError>
+        ensures { IfOk result
+            (λ o. o ≡ record { items = first.now ++ others.now; is_fqdn = is_fqdn }) }
+    {
+        let len = first.len() + others.len();
+        let mut bytes = Vec::with_capacity(alloc, len.max(HEAP_ROOM))?;
+        bytes.extend_from_slice(first)?;
+        bytes.extend_from_slice(others)?;
         Ok(Labels {
-            storage: Storage::Heap {
-                is_fqdn,
-                bytes: both,
-            },
+            storage: Storage::Heap { is_fqdn, bytes },
         })
     }
 

@@ -14,6 +14,9 @@ const PIECE: usize = 16;
 /// How many of a shorter list are.
 const SHORT_PIECE: usize = 8;
 
+/// How many of a shorter one yet are.
+const LEAST_PIECE: usize = 4;
+
 /// Up to 29 bytes of labels, and whether the name is absolute. With the number of bytes and a tag before them they are
 /// 32 bytes. What stands after the labels has no meaning.
 #[derive(Drop)]
@@ -64,29 +67,8 @@ impl InlineLabels {
         }
     }
 
-    /// The first `used` of these bytes. All that have inline are copied, since a fixed number is copied faster.
-    pub(crate) fn from_front(
-        alloc: Global,
-        slice: &[u8],
-        used: usize,
-        is_fqdn: bool,
-    ) -> InlineLabels
-        requires few { used ≤ INLINE_LABELS }
-        // There are at least the 29 bytes that are copied.
-        requires enough { INLINE_LABELS ≤ length slice.now }
-        ensures { result ≡ record { items = take used slice.now; is_fqdn = is_fqdn } }
-    {
-        let mut bytes = [0; INLINE_LABELS];
-        bytes.copy_from_slice(&slice[..INLINE_LABELS]);
-        InlineLabels {
-            alloc,
-            is_fqdn,
-            len: used as u8,
-            bytes,
-        }
-    }
-
-    /// The first `used` of these bytes, and others after them.
+    /// The first `used` of these bytes, and others after them. All that have room are copied, since a fixed number is
+    /// copied faster.
     pub(crate) fn from_front_and(
         alloc: Global,
         slice: &[u8],
@@ -172,7 +154,9 @@ fn copy_few(place: &mut [u8], slice: &[u8])
         copy_ends(place, slice, PIECE);
     } else if slice.len() >= SHORT_PIECE {
         copy_ends(place, slice, SHORT_PIECE);
-    } else {
+    } else if slice.len() >= LEAST_PIECE {
+        copy_ends(place, slice, LEAST_PIECE);
+    } else if !slice.is_empty() {
         place.copy_from_slice(slice);
     }
 }

@@ -71,7 +71,7 @@ impl Name {
             return Err(ParseError::BadName);
         };
         Ok(Name {
-            labels: Labels::from_front(alloc, &room, used, is_fqdn)?,
+            labels: Labels::from_front_and(alloc, &room, used, &[], is_fqdn)?,
         })
     }
 }

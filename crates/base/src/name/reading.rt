@@ -182,7 +182,7 @@ impl BinDecodable for Name {
         let own = decoder.rest();
         let piece = read_piece(own, 0)?;
         let Some(target) = piece.pointer else {
-            let labels = Labels::from_front(alloc, own, piece.len, true)?;
+            let labels = Labels::from_front_and(alloc, own, piece.len, &[], true)?;
             decoder.move_to(start + piece.len + 1);
             return Ok(Name { labels });
         };

@@ -1,6 +1,7 @@
 use Rattle.std.proofs.Common.{◌∙◌, ◌+◌, ◌<◌, ◌≤◌, ◌≡◌, ℕ, List, Ok, Err, refl, ap, arith, length, length-drop, sym}
 use Rattle.std.proofs.Common.{subst}
 use Rattle.std.specs.Prelude.{is_some}
+use Rattle.std.proofs.lemmas.List.{append-nil}
 use Rattle.std.proofs.lemmas.Result.{err_from_is_err_and}
 use Rattle.base.specs.reading.Pieces.{ending_of}
 use Rattle.base.specs.reading.Names.{labels_at, name_at}
@@ -28,8 +29,8 @@ returns-in_err-piece-clause-read c =
 
 -- ---- a name without a pointer
 
-pub from_front-requires : goal.from_front-requires
-from_front-requires c = piece_fits c.in_ok-piece.ensures.piece
+pub from_front_and-requires : goal.from_front_and-requires
+from_front_and-requires c = piece_fits c.in_ok-piece.ensures.piece
 
 pub move_to-requires-clause-inside : goal.move_to-requires-clause-inside
 move_to-requires-clause-inside c =
@@ -48,7 +49,7 @@ invariant_of-result c =
     let old = c.args.decoder.now in
     let inside : old.index ≤ length old.bytes =
     omega (arith, c.index-start.ensures.inside, c.index-start.ensures.value) in
-    rw (c.in_ok-labels.ensures, c.rest-own.ensures)
+    rw (c.in_ok-labels.ensures, append-nil _, c.rest-own.ensures)
     (gathers_own old.bytes old.index inside c.rest-own.ensures c.in_ok-piece.ensures.piece).wire
 
 pub returns-in_default : goal.returns-in_default
@@ -61,7 +62,7 @@ returns-in_default c =
     (adds_root old inside c.rest-own.ensures c.in_ok-piece.ensures.piece c.in_default.is) refl (λ counted. counted)
     (c.move_to.ensures ∙ ap (λ (i : ℕ). record old { index = i + c.in_ok-piece.piece.len + 1 }) at.value) in
     record {
-      read = rw (c.move_to.ensures, c.in_ok-labels.ensures, at.value, c.rest-own.ensures)
+      read = rw (c.move_to.ensures, c.in_ok-labels.ensures, append-nil _, at.value, c.rest-own.ensures)
           (name_from _ _ _ _ read, refl);
       passes = λ h. after.passes _ _ h;
       tracks = after.tracks;
@@ -91,8 +92,8 @@ returns-in_err-kept-clause-tracks c =
     let p = err_from_is_err_and c.from_residual-in_err-kept.result c.from_residual-in_err-kept.ensures.1 in
     rw p.1 (looks_bounded c.look.invariant)
 
-pub from_front_and-requires : goal.from_front_and-requires
-from_front_and-requires c = piece_fits c.in_ok-piece.ensures.piece
+pub from_front_and-requires-in-Some-2 : goal.from_front_and-requires-in-Some-2
+from_front_and-requires-in-Some-2 c = piece_fits c.in_ok-piece.ensures.piece
 
 pub move_to-requires-in-Some-2-clause-inside : goal.move_to-requires-in-Some-2-clause-inside
 move_to-requires-in-Some-2-clause-inside c =
