@@ -1,8 +1,9 @@
 //! The labels of a name, inside its value or on the heap.
 
 ghost use Rattle.base.specs.declared.limits.TheConstants.{INLINE_LABELS};
-ghost use Rattle.std.specs.Prelude.{◌≡◌, ◌≤◌, ◌++◌, [], length, take, is_ok, IfOk, IsTrue};
+ghost use Rattle.std.specs.Prelude.{◌≡◌, ◌≤◌, ◌++◌, [], length, take, is_ok, IfOk, IsTrue, OnErr, OnOk};
 ghost use Rattle.base.specs.names.StoredLabels.{lower_labels};
+ghost use Rattle.base.specs.names.Storage.{stored_in};
 
 mod inline;
 
@@ -76,51 +77,31 @@ impl Labels {
         })
     }
 
-    /// The first `used` bytes of `bytes`, then `others`.
+    /// Puts the first `used` bytes of `bytes`, and then `others`, in the place of those that there are.
     ///
     /// # Errors
     ///
-    /// If memory runs out.
+    /// If memory runs out, with the labels as they were.
     #[inline(always)]
-    pub(crate) fn from_front_and(
-        alloc: Global,
+    pub(crate) fn set(
+        &mut self,
         bytes: &[u8],
         used: usize,
         others: &[u8],
-        is_fqdn: bool,
-    ) -> Result<Labels, AllocError>
+    ) -> Result<(), AllocError>
         requires { used ≤ length bytes.now }
-        ensures { IfOk result (λ o. o
-            ≡ record { items = take used bytes.now ++ others.now; is_fqdn = is_fqdn }) }
+        ensures ok { OnOk result (self.new
+            ≡ record self.old { items = take used bytes.now ++ others.now }) }
+        ensures err { OnErr result (self.new ≡ self.old) }
     {
         if used + others.len() <= INLINE_LABELS {
-            return Ok(Labels {
-                storage: Storage::Inline(InlineLabels::from_front_and(
-                    alloc, bytes, used, others, is_fqdn,
-                )),
-            });
+            if let Storage::Inline(inline) = &mut self.storage {
+                inline.set(bytes, used, others);
+                return Ok(());
+            }
         }
-        Labels::on_heap(alloc, &bytes[..used], others, is_fqdn)
-    }
-
-    /// Some bytes, then others, in memory of their own. It isn't copied into each reader of names, since few are so long.
-    #[inline(never)]
-    fn on_heap(
-        alloc: Global,
-        first: &[u8],
-        others: &[u8],
-        is_fqdn: bool,
-    ) -> Result<Labels, AllocError>
-        ensures { IfOk result
-            (λ o. o ≡ record { items = first.now ++ others.now; is_fqdn = is_fqdn }) }
-    {
-        let len = first.len() + others.len();
-        let mut bytes = Vec::with_capacity(alloc, len.max(HEAP_ROOM))?;
-        bytes.extend_from_slice(first)?;
-        bytes.extend_from_slice(others)?;
-        Ok(Labels {
-            storage: Storage::Heap { is_fqdn, bytes },
-        })
+        self.storage = on_heap(self.allocator(), &bytes[..used], others, self.is_fqdn())?;
+        Ok(())
     }
 
     /// The allocator.
@@ -170,6 +151,24 @@ impl Labels {
             Storage::Heap { is_fqdn: old, .. } => *old = is_fqdn,
         }
     }
+}
+
+/// Some bytes, then others, in memory of their own. It isn't copied into each reader of names, since few are so long.
+#[inline(never)]
+fn on_heap(
+    alloc: Global,
+    first: &[u8],
+    others: &[u8],
+    is_fqdn: bool,
+) -> Result<Storage, AllocError>
+    ensures { IfOk result (λ s. stored_in s
+        ≡ record { items = first.now ++ others.now; is_fqdn = is_fqdn }) }
+{
+    let len = first.len() + others.len();
+    let mut bytes = Vec::with_capacity(alloc, len.max(HEAP_ROOM))?;
+    bytes.extend_from_slice(first)?;
+    bytes.extend_from_slice(others)?;
+    Ok(Storage::Heap { is_fqdn, bytes })
 }
 
 // By hand, as of `Name`.

@@ -152,15 +152,9 @@ impl Name {
         let Some((_, rest)) = first_label(self.as_wire()) else {
             return Ok(self.clone()?);
         };
-        Ok(Name {
-            labels: Labels::from_front_and(
-                self.allocator(),
-                WILDCARD,
-                WILDCARD.len(),
-                rest,
-                self.is_fqdn(),
-            )?,
-        })
+        let mut labels = Labels::none(self.allocator(), self.is_fqdn());
+        labels.set(WILDCARD, WILDCARD.len(), rest)?;
+        Ok(Name { labels })
     }
 
     /// The labels from the left, each with its length before it, without a final zero byte.

@@ -67,34 +67,17 @@ impl InlineLabels {
         }
     }
 
-    /// The first `used` of these bytes, and others after them. All that have room are copied, since a fixed number is
-    /// copied faster.
-    pub(crate) fn from_front_and(
-        alloc: Global,
-        slice: &[u8],
-        used: usize,
-        others: &[u8],
-        is_fqdn: bool,
-    ) -> InlineLabels
+    /// Puts the first `used` of these bytes, and others after them, in the place of those that there are.
+    #[inline(always)]
+    pub(crate) fn set(&mut self, slice: &[u8], used: usize, others: &[u8])
         requires there { used ≤ length slice.now }
         requires few { used + length others.now ≤ INLINE_LABELS }
-        ensures { result
-            ≡ record { items = take used slice.now ++ others.now; is_fqdn = is_fqdn } }
+        ensures { self.new ≡ record self.old { items = take used slice.now ++ others.now } }
     {
         let len = used + others.len();
-        let mut bytes = [0; INLINE_LABELS];
-        if slice.len() >= INLINE_LABELS {
-            bytes.copy_from_slice(&slice[..INLINE_LABELS]);
-        } else {
-            bytes[..used].copy_from_slice(&slice[..used]);
-        }
-        copy_few(&mut bytes[used..len], others);
-        InlineLabels {
-            alloc,
-            is_fqdn,
-            len: len as u8,
-            bytes,
-        }
+        copy_front(&mut self.bytes, slice, used);
+        copy_few(&mut self.bytes[used..len], others);
+        self.len = len as u8;
     }
 
     /// The same again.
@@ -140,6 +123,20 @@ impl InlineLabels {
         ensures { self.new ≡ record self.old { is_fqdn = is_fqdn } }
     {
         self.is_fqdn = is_fqdn;
+    }
+}
+
+/// Copies the first `used` bytes of a slice, and as many more as have room, since a fixed number is copied faster.
+#[inline(always)]
+fn copy_front(room: &mut [u8; INLINE_LABELS], slice: &[u8], used: usize)
+    requires there { used ≤ length slice.now }
+    requires few { used ≤ INLINE_LABELS }
+    ensures { take used room.new ≡ take used slice.now }
+{
+    if slice.len() >= INLINE_LABELS {
+        room.copy_from_slice(&slice[..INLINE_LABELS]);
+    } else {
+        room[..used].copy_from_slice(&slice[..used]);
     }
 }
 

@@ -70,9 +70,9 @@ impl Name {
         let Some((used, is_fqdn)) = gather_name(text.as_bytes(), origin, &mut room) else {
             return Err(ParseError::BadName);
         };
-        Ok(Name {
-            labels: Labels::from_front_and(alloc, &room, used, &[], is_fqdn)?,
-        })
+        let mut labels = Labels::none(alloc, is_fqdn);
+        labels.set(&room, used, &[])?;
+        Ok(Name { labels })
     }
 }
 

@@ -182,14 +182,16 @@ impl BinDecodable for Name {
         let own = decoder.rest();
         let piece = read_piece(own, 0)?;
         let Some(target) = piece.pointer else {
-            let labels = Labels::from_front_and(alloc, own, piece.len, &[], true)?;
+            let mut labels = Labels::none(alloc, true);
+            labels.set(own, piece.len, &[])?;
             decoder.move_to(start + piece.len + 1);
             return Ok(Name { labels });
         };
         // Labels that aren't kept yet are at the second look.
         'look: loop {
             if let Some(kept) = kept_labels(decoder, target, start, piece.len)? {
-                let labels = Labels::from_front_and(alloc, own, piece.len, kept, true)?;
+                let mut labels = Labels::none(alloc, true);
+                labels.set(own, piece.len, kept)?;
                 decoder.move_to(start + piece.len + 2);
                 return Ok(Name { labels });
             }

@@ -29,8 +29,8 @@ returns-in_err-piece-clause-read c =
 
 -- ---- a name without a pointer
 
-pub from_front_and-requires : goal.from_front_and-requires
-from_front_and-requires c = piece_fits c.in_ok-piece.ensures.piece
+pub set-requires : goal.set-requires
+set-requires c = piece_fits c.in_ok-piece.ensures.piece
 
 pub move_to-requires-clause-inside : goal.move_to-requires-clause-inside
 move_to-requires-clause-inside c =
@@ -49,7 +49,7 @@ invariant_of-result c =
     let old = c.args.decoder.now in
     let inside : old.index ≤ length old.bytes =
     omega (arith, c.index-start.ensures.inside, c.index-start.ensures.value) in
-    rw (c.in_ok-labels.ensures, append-nil _, c.rest-own.ensures)
+    rw (c.in_ok-set.ensures.ok, append-nil _, c.rest-own.ensures)
     (gathers_own old.bytes old.index inside c.rest-own.ensures c.in_ok-piece.ensures.piece).wire
 
 pub returns-in_default : goal.returns-in_default
@@ -62,7 +62,7 @@ returns-in_default c =
     (adds_root old inside c.rest-own.ensures c.in_ok-piece.ensures.piece c.in_default.is) refl (λ counted. counted)
     (c.move_to.ensures ∙ ap (λ (i : ℕ). record old { index = i + c.in_ok-piece.piece.len + 1 }) at.value) in
     record {
-      read = rw (c.move_to.ensures, c.in_ok-labels.ensures, append-nil _, at.value, c.rest-own.ensures)
+      read = rw (c.move_to.ensures, c.in_ok-set.ensures.ok, c.none-labels.ensures, append-nil _, at.value, c.rest-own.ensures)
           (name_from _ _ _ _ read, refl);
       passes = λ h. after.passes _ _ h;
       tracks = after.tracks;
@@ -92,8 +92,8 @@ returns-in_err-kept-clause-tracks c =
     let p = err_from_is_err_and c.from_residual-in_err-kept.result c.from_residual-in_err-kept.ensures.1 in
     rw p.1 (looks_bounded c.look.invariant)
 
-pub from_front_and-requires-in-Some-2 : goal.from_front_and-requires-in-Some-2
-from_front_and-requires-in-Some-2 c = piece_fits c.in_ok-piece.ensures.piece
+pub set-requires-in-Some-2 : goal.set-requires-in-Some-2
+set-requires-in-Some-2 c = piece_fits c.in_ok-piece.ensures.piece
 
 pub move_to-requires-in-Some-2-clause-inside : goal.move_to-requires-in-Some-2-clause-inside
 move_to-requires-in-Some-2-clause-inside c =
@@ -116,7 +116,7 @@ invariant_of-result-in-Some-2 c =
     let inside : old.index ≤ length old.bytes = omega (arith, at.inside, at.value) in
     let found = looks_found old inside c.rest-own.ensures c.in_ok-piece.ensures.piece c.in-Some.is c.look.invariant
     (sym k.is ∙ ap is_some c.in-Some-2.is) (rw c.in-Some-2.is at k.spelled) (rw c.in-Some-2.is at k.short) k.closed in
-    rw (c.in_ok-labels-2.ensures, c.rest-own.ensures)
+    rw (c.in_ok-set-2.ensures.ok, c.rest-own.ensures)
     (wire_next old.bytes old.index inside c.rest-own.ensures c.in_ok-piece.ensures.piece c.in-Some.is found.kept
     (omega (arith, found.short)))
 
@@ -134,7 +134,7 @@ returns-in-Some-2 c =
     let after = name_read {mid = now} _ read found.adds found.now_is found.counts
     (c.move_to-in-Some-2.ensures ∙ ap (λ (i : ℕ). record now { index = i + c.in_ok-piece.piece.len + 2 }) at.value) in
     record {
-      read = rw (c.move_to-in-Some-2.ensures, c.in_ok-labels-2.ensures, at.value, c.rest-own.ensures)
+      read = rw (c.move_to-in-Some-2.ensures, c.in_ok-set-2.ensures.ok, c.none-labels-in-Some-2.ensures, at.value, c.rest-own.ensures)
           (name_from _ _ _ _ read, looks_bytes c.look.invariant);
       passes = λ h. after.passes _ _ h;
       tracks = after.tracks;
