@@ -83,12 +83,7 @@ impl Labels {
     ///
     /// If memory runs out, with the labels as they were.
     #[inline(always)]
-    pub(crate) fn set(
-        &mut self,
-        bytes: &[u8],
-        used: usize,
-        others: &[u8],
-    ) -> Result<(), AllocError>
+    pub(crate) fn set(&mut self, bytes: &[u8], used: usize, others: &[u8]) -> Result<(), AllocError>
         requires { used ≤ length bytes.now }
         ensures ok { OnOk result (self.new
             ≡ record self.old { items = take used bytes.now ++ others.now }) }
@@ -155,12 +150,7 @@ impl Labels {
 
 /// Some bytes, then others, in memory of their own. It isn't copied into each reader of names, since few are so long.
 #[inline(never)]
-fn on_heap(
-    alloc: Global,
-    first: &[u8],
-    others: &[u8],
-    is_fqdn: bool,
-) -> Result<Storage, AllocError>
+fn on_heap(alloc: Global, first: &[u8], others: &[u8], is_fqdn: bool) -> Result<Storage, AllocError>
     ensures { IfOk result (λ s. stored_in s
         ≡ record { items = first.now ++ others.now; is_fqdn = is_fqdn }) }
 {

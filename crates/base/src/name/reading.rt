@@ -165,6 +165,8 @@ impl BinDecodable for Name {
     /// `InsufficientBytes` where the buffer ends inside a piece of the name; `BadName` where the top bits of a byte are
     /// 01 or 10, where a pointer doesn't go below the start of its piece, and where the name would have more than 255
     /// bytes; `Memory` if memory runs out.
+    // Each caller has a copy of its own, since a name is moved in fewer instructions so.
+    #[inline(always)]
     #[tactic(auto, unfolding(crate::specs::reading::Names::name_at))]
     fn read(decoder: &mut BinDecoder<'_>) -> Result<Name, DecodeError>
         ensures read { Reads (λ x. x) decoder.old decoder.new result
