@@ -18,5 +18,5 @@ returns-clause-value c = λ i. record {
       ∙ c.in-Some.ensures.labels) c.in-Some.ensures.others
       (ap (λ (o : StoredLabels). o.items) c.in_ok-set.ensures.ok) i;
   absolute = (ap (λ (o : StoredLabels). o.is_fqdn) c.in_ok-set.ensures.ok
-    ∙ ap (λ (o : StoredLabels). o.is_fqdn) c.none-labels.ensures ∙ c.is_fqdn.ensures) i;
+      ∙ ap (λ (o : StoredLabels). o.is_fqdn) c.none-labels.ensures ∙ c.is_fqdn.ensures) i;
 }

@@ -62,8 +62,14 @@ returns-in_default c =
     (adds_root old inside c.rest-own.ensures c.in_ok-piece.ensures.piece c.in_default.is) refl (λ counted. counted)
     (c.move_to.ensures ∙ ap (λ (i : ℕ). record old { index = i + c.in_ok-piece.piece.len + 1 }) at.value) in
     record {
-      read = rw (c.move_to.ensures, c.in_ok-set.ensures.ok, c.none-labels.ensures, append-nil _, at.value,
-        c.rest-own.ensures)
+      read = rw (
+        c.move_to.ensures,
+        c.in_ok-set.ensures.ok,
+        c.none-labels.ensures,
+        append-nil _,
+        at.value,
+        c.rest-own.ensures,
+      )
           (name_from _ _ _ _ read, refl);
       passes = λ h. after.passes _ _ h;
       tracks = after.tracks;
@@ -135,8 +141,13 @@ returns-in-Some-2 c =
     let after = name_read {mid = now} _ read found.adds found.now_is found.counts
     (c.move_to-in-Some-2.ensures ∙ ap (λ (i : ℕ). record now { index = i + c.in_ok-piece.piece.len + 2 }) at.value) in
     record {
-      read = rw (c.move_to-in-Some-2.ensures, c.in_ok-set-2.ensures.ok, c.none-labels-in-Some-2.ensures, at.value,
-        c.rest-own.ensures)
+      read = rw (
+        c.move_to-in-Some-2.ensures,
+        c.in_ok-set-2.ensures.ok,
+        c.none-labels-in-Some-2.ensures,
+        at.value,
+        c.rest-own.ensures,
+      )
           (name_from _ _ _ _ read, looks_bytes c.look.invariant);
       passes = λ h. after.passes _ _ h;
       tracks = after.tracks;
