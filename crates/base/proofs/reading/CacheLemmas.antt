@@ -1,6 +1,6 @@
 -- The labels that a cache keeps by offset, where more are kept.
 use Rattle.std.proofs.Common.{◌≡◌, ◌≢◌, ℕ, zero, suc, ◌+◌, ◌-◌, ◌<◌, ◌≤◌, Bool, true, false, cond, List, [], ◌∷◌, ◌++◌}
-use Rattle.std.proofs.Common.{length, take, drop, append_assoc}
+use Rattle.std.proofs.Common.{length, max, take, drop, append_assoc}
 use Rattle.std.proofs.Common.{Some, None, refl, ap, sym, ◌∙◌, subst, arith, length-append, length-drop, length-take}
 use Rattle.std.proofs.Common.{inl, inr}
 use Rattle.std.specs.Prelude.{All, Option, option_map, unwrap_or, get_or, nat_eq, nat_lt, replicate, slice_set, ◌==◌}
@@ -21,7 +21,8 @@ use borrow.Rule.Slice.PartMut.{put_mid}
 use Rattle.base.specs.declared.wire.pointer_cache.TargetLabels.{TargetLabels}
 use Rattle.base.specs.declared.wire.pointer_cache.TargetLabels.TheVariants.{Lent, Copied}
 use Rattle.base.specs.declared.wire.pointer_cache.Target.{Target}
-use Rattle.base.specs.reading.Pointers.{AreThere, Cache, copied_bytes, IsInside, IsLonger, IsTargetThere, cache_of}
+use Rattle.base.specs.reading.Pointers.{AreThere, AreUpTo, Cache, copied_bytes, IsInside, IsLonger, IsTargetThere}
+use Rattle.base.specs.reading.Pointers.{cache_of}
 use Rattle.base.specs.reading.Pointers.{entries_from, target_entries, target_labels, labels_from, labels_in, len_at}
 use Rattle.base.specs.reading.Pointers.{kept_after, rest_labels}
 
@@ -218,6 +219,19 @@ found_from t copied (suc n ∷ places) (suc k) =
     cond-false (eq_by_cmp nat_cmp (t + suc k) t) _ _ (not_tied (t + suc k) t (λ same. omega (arith, same)))
     ∙ ap (λ (q : ℕ). map.find nat_cmp q (entries_from (suc t) copied places)) next ∙ found_from (suc t) copied places k
 
+-- none of the first targets stands after the last
+pub none_after : (copied : List ℕ) (last : ℕ) (first : List Target) (q : ℕ) → AreUpTo last first → last < q
+    → map.find nat_cmp q (target_entries copied first) ≡ None
+none_after copied last [] q up less = refl
+none_after copied last (t ∷ first) q up less =
+    cond-false (eq_by_cmp nat_cmp q t.offset) _ _ (not_tied q t.offset (λ same. omega (arith, same, up.0, less)))
+    ∙ none_after copied last first q up.1 less
+
+up_to_more : (last : ℕ) (first : List Target) (one : Target) → AreUpTo last first
+    → AreUpTo (max last one.offset) (first ++ one ∷ [])
+up_to_more last [] one up = (omega arith, tt)
+up_to_more last (t ∷ first) one up = (omega (arith, up.0), up_to_more last first one up.1)
+
 -- by its place, and else among the first targets
 pub get_cache : (copied others : List ℕ) (first : List Target) (q : ℕ)
     → map.get (cache_of copied others first) q ≡ option_or (labels_in copied (get_or others q 0))
@@ -375,6 +389,11 @@ made_first {cache} {copied} {places} first count made t labels none less is =
           ∙ ap (λ (m : Cache). map.insert m t (target_labels copied labels)) made.view;
       are = (made.are.0, All-push (IsTargetThere copied) (take count first) one made.are.1 is);
     })
+
+pub first_up_to : (first : List Target) (count last : ℕ) (one : Target) → AreUpTo last (take count first)
+    → count < length first → AreUpTo (max last one.offset) (take (count + 1) (slice_set first count one))
+first_up_to first count last one up less =
+    rw (take_more_set first count one less) (up_to_more last (take count first) one up)
 
 -- what is kept for an offset, by where it is
 pub rest_is : (copied places : List ℕ) (first : List Target) (q place : ℕ) (r : Option (List ℕ))

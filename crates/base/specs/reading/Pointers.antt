@@ -7,7 +7,7 @@ use Rattle.std.specs.Prelude.{IfSome, drop}
 use Rattle.std.specs.Borrow.{Bor}
 use Rattle.std.specs.FinMap as labels_by
 use Rattle.std.specs.FinSet as set
-use Rattle.std.specs.List.{slice_range}
+use Rattle.std.specs.List.{AllByRecursion, slice_range}
 use Rattle.std.specs.Ordering.{nat_cmp}
 use Rattle.base.specs.declared.name.reading.NamePiece.{NamePiece}
 use Rattle.base.specs.declared.wire.pointer_cache.TargetLabels.{TargetLabels}
@@ -120,6 +120,10 @@ pub record IsLonger (old new : List ℕ) : Type 0 where
 -- those of the first targets that are in use
 abbrev pub first_of : FirstTargets → List Target
 first_of first = take first.count first.all
+
+-- no target stands after the last
+abbrev pub AreUpTo : ℕ → List Target → Type 0
+AreUpTo last targets = AllByRecursion (λ (t : Target). t.offset ≤ last) targets
 
 -- targets with their labels
 abbrev pub target_entries : List ℕ → List Target → List (ℕ × List ℕ)

@@ -7,7 +7,7 @@ ghost use Rattle.base.specs.declared.wire.pointer_cache.TargetLabels.TheVariants
 ghost use Rattle.base.specs.declared.wire.pointer_cache.TheConstants.{ROOM};
 ghost use Rattle.std.specs.Option.{option_or};
 ghost use Rattle.std.specs.Ordering.{nat_cmp};
-ghost use Rattle.base.specs.reading.Pointers.{labels_from, labels_in, target_entries, first_of, AreThere, IsInside, IsLonger, IsTargetThere, cache_of, kept_after, rest_labels, with_copied, labels_now, target_labels};
+ghost use Rattle.base.specs.reading.Pointers.{labels_from, labels_in, target_entries, first_of, AreThere, AreUpTo, IsInside, IsLonger, IsTargetThere, cache_of, kept_after, rest_labels, with_copied, labels_now, target_labels};
 
 mod copied;
 
@@ -42,6 +42,8 @@ struct Target<'a> {
 #[derive(Clone, Copy)]
 struct FirstTargets<'a> {
     count: usize,
+    /// No target of them stands after this offset, so that a new one, which mostly does, isn't looked for among them.
+    last: u16,
     all: [Target<'a>; ROOM],
 }
 
@@ -67,7 +69,7 @@ impl<'a> Model for PointerCache<'a> {
     ghost use Rattle.std.specs.Coded.{coded_ℕ, coded_list};
     ghost use Rattle.std.specs.FinMap as map;
     ghost use Rattle.std.specs.Ordering.{nat_cmp};
-    ghost use Rattle.base.specs.reading.Pointers.{IsInside, IsTargetThere, cache_of, first_of};
+    ghost use Rattle.base.specs.reading.Pointers.{AreUpTo, IsInside, IsTargetThere, cache_of, first_of};
     ghost use Rattle.base.specs.declared.wire.pointer_cache.TheConstants.{ROOM};
 
     ghost Value = { map.FinMap nat_cmp (List ℕ) };
@@ -77,7 +79,8 @@ impl<'a> Model for PointerCache<'a> {
     ghost view = { λ c.
         cache_of c.copies.bytes c.copies.places.items (first_of c.first) };
 
-    ghost invariant = { λ c. ((c.first.count ≤ ROOM) × (length c.first.all ≡ ROOM))
+    ghost invariant = { λ c. (((c.first.count ≤ ROOM) × (length c.first.all ≡ ROOM))
+        × AreUpTo c.first.last (first_of c.first))
         × (All (IsInside c.copies.bytes) c.copies.places.items
         × All (IsTargetThere c.copies.bytes) (first_of c.first)) };
 }
@@ -110,7 +113,8 @@ fn find_target<'a>(
     first: &FirstTargets<'a>,
     offset: u16,
 ) -> Option<TargetLabels<'a>>
-    requires { first.now.count ≤ ROOM }
+    requires few { first.now.count ≤ ROOM }
+    requires last { AreUpTo first.now.last (first_of first.now) }
     // Whatever was copied, they are those that are kept for the offset.
     ensures found { (copied : List ℕ) → option_map (target_labels copied) result
         ≡ map.get (cache_of copied places.now (first_of first.now)) offset }
@@ -120,6 +124,9 @@ fn find_target<'a>(
     let place = place_at(places, usize::from(offset));
     if place != 0 {
         return Some(TargetLabels::Copied(place));
+    }
+    if offset > first.last {
+        return None;
     }
     for target in &first.all[..first.count] {
         if target.offset == offset {
@@ -222,6 +229,7 @@ impl<'a> PointerCache<'a> {
         PointerCache {
             first: FirstTargets {
                 count: 0,
+                last: 0,
                 all: [unused; ROOM],
             },
             copies: Copies {
@@ -269,6 +277,7 @@ impl<'a> PointerCache<'a> {
         let labels = joined(own, rest, &mut self.copies.bytes)?;
         if self.first.count < ROOM {
             self.first.all[self.first.count] = Target { offset, labels };
+            self.first.last = self.first.last.max(offset);
             self.first.count += 1;
             return Ok(());
         }
