@@ -7,11 +7,10 @@ use Rattle.base_data.specs.declared.rdata.RData.{RData}
 use Rattle.op_use.proofs.FollowSteps.{all_follow}
 use Rattle.op_use.proofs.MapIsZone.{zone_is}
 use Rattle.op_use.proofs.MapZones.{data_at}
-use Rattle.op_use.proofs.Origins.{From, among_parts, from_if, from_joined, from_none, from_one, from_same, from_without}
+use Rattle.op_use.proofs.Origins.{From, among_parts, from_joined, from_none, from_one, from_same, from_without}
 use Rattle.op_use.proofs.Origins.{later_among, none_among}
 use Rattle.op_use.proofs.OwnerParts.{owns_named, records_stay, same_place}
-use Rattle.op_use.proofs.ZoneSteps.{Filled, filled_put, kept, kept_found, same_sets}
-use Rattle.base.proofs.names.KeyLemmas.{key_cmp-exact}
+use Rattle.op_use.proofs.ZoneSteps.{Filled, filled_put, kept, kept_found, retained, same_sets}
 use Rattle.op_use.specs.AppliedRecords.{after_by, after_update, records_after, with_record}
 use Rattle.op_use.specs.Applying.{IsZoneMap, TakesFrom, names_owner, records_at, zone_of_map}
 use Rattle.op_use.specs.MapUpdates.{IsAfter, IsLeft, names_set}
@@ -21,12 +20,11 @@ use Rattle.op_use.specs.Server.{is_under, update, update_by, use_of}
 use Rattle.op_use.specs.Zone.{Zone, at}
 use Rattle.rr.specs.RecordSet.{SetValue}
 use Rattle.rr.specs.Record.{type_of_record}
-use Rattle.rr.specs.SetChanges.{joined}
-use Rattle.rr.specs.SetUpdates.{last_ttl, without}
+use Rattle.rr.specs.SetChanges.{joined, last_ttl, without}
 use Rattle.rr.specs.declared.record.Record.{Record}
 use Rattle.std.proofs.Common.{ap, arith, inl, inr, refl, subst, sym, ◌∙◌, ◌⊎◌}
 use Rattle.std.proofs.Math.Bool.{or-true}
-use Rattle.std.proofs.lemmas.Bool.{true≢false}
+use Rattle.std.proofs.lemmas.Bool.{cond_both, true≢false}
 use Rattle.std.proofs.lemmas.List.Folds.{list_any-append}
 use Rattle.std.specs.BTreeMap as tree
 use Rattle.std.specs.BTreeMap.{BTreeMap}
@@ -43,11 +41,10 @@ filled_if false z y f g = g
 
 filled_by : (how : Use) (z : Zone) (r : Record RData) → Filled z → Filled (update_by how z r)
 filled_by OfZone z r h = filled_if _ z _ h (filled_put z _ _ h)
-filled_by OfAny z r h = λ q f. by (goes_with z r q) q (sym (fin.get-retain_keys z.sets (λ k. not (goes_with z r k)) q
-    (λ x t. ap (λ k. not (goes_with z r k)) (sym (key_cmp-exact q x t)))) ∙ f) where
-      by : (b : Bool) (q : RrKey) → cond (not b) (fin.get z.sets q) None ≢ Some []
-      by true q e = cc
-      by false q e = h q e
+filled_by OfAny z r h = λ q f. by (goes_with z r q) q (sym (retained z.sets (λ k. not (goes_with z r k)) q) ∙ f) where
+  by : (b : Bool) (q : RrKey) → cond (not b) (fin.get z.sets q) None ≢ Some []
+  by true q e = cc
+  by false q e = h q e
 filled_by OfNone z r h = filled_if _ z _ h (filled_put z _ _ h)
 filled_by OfNothing z r h = h
 
@@ -68,12 +65,12 @@ same_zone z y o c f g h = λ i. record {
 
 from_update : (how : Use) (z : Zone) (r : Record RData) (k : RrKey) (xs : List (Record RData))
     → From r xs (after_by how z r k xs)
-from_update OfZone z r k xs = from_if r xs (with_record r xs) xs (not (is_kept_out z r) && is_under r k)
-    (from_if r xs (r ∷ []) (joined r xs) (is_cname (type_of_record r)) (from_one r xs) (from_joined r xs))
-    (from_same r xs)
-from_update OfAny z r k xs = from_if r xs [] xs (goes_with z r k) (from_none r xs) (from_same r xs)
-from_update OfNone z r k xs = from_if r xs (without (r ∷ []) xs) xs (not (is_needed z r) && is_under r k)
-    (from_without r (r ∷ []) xs) (from_same r xs)
+from_update OfZone z r k xs = cond_both (not (is_kept_out z r) && is_under r k) (with_record r xs) xs (From r xs)
+    (λ _. cond_both (is_cname (type_of_record r)) (r ∷ []) (joined r xs) (From r xs) (λ _. from_one r xs)
+    (λ _. from_joined r xs)) (λ _. from_same r xs)
+from_update OfAny z r k xs = cond_both (goes_with z r k) [] xs (From r xs) (λ _. from_none r xs) (λ _. from_same r xs)
+from_update OfNone z r k xs = cond_both (not (is_needed z r) && is_under r k) (without r xs) xs (From r xs)
+    (λ _. from_without r xs) (λ _. from_same r xs)
 from_update OfNothing z r k xs = from_same r xs
 
 from_updates : (rs : List (Record RData)) (z : Zone) (k : RrKey) (xs : List (Record RData)) (v : Record RData)

@@ -1,10 +1,10 @@
 -- Updates that are built fit the wire, and uncut bytes of them are read as the same sections.
-use Rattle.std.proofs.Common.{◌≡◌, ◌≢◌, ℕ, Bool, true, false, List, [], ◌∷◌, ◌++◌, refl, ap, sym, ◌∙◌, subst, arith}
+use Rattle.std.proofs.Common.{◌≡◌, ◌≢◌, ℕ, Bool, true, false, List, [], ◌∷◌, refl, ap, sym, ◌∙◌, subst, arith}
 use Rattle.std.proofs.Common.{Result, Ok, Err, map}
 use Rattle.std.specs.Prelude.{All, IfOk}
 use Rattle.std.specs.List.{AllByRecursion}
 use Rattle.std.proofs.lemmas.Bool.{true≢false}
-use Rattle.std.proofs.lemmas.List.{append-nil}
+use Rattle.std.proofs.lemmas.List.{map-id}
 use Rattle.std.proofs.lemmas.List.Elements.{All-append, All-cons, All-nil, All-from_recursion, recursion_from_All}
 use Rattle.base.specs.names.Labels.{NameValue}
 use Rattle.base.specs.RecordType.{type_number, type_of}
@@ -25,6 +25,7 @@ use Rattle.op.specs.Section.{is_additional_type}
 use Rattle.op.specs.declared.op_code.OpCode.TheVariants as op_codes
 use Rattle.op.specs.declared.response_code.ResponseCode.{ResponseCode}
 use Rattle.op.proofs.reading.MessageStands.{one_message}
+use Rattle.op.proofs.writing.UncutLemmas.{whole_of}
 use Rattle.op_use.specs.SoundSet.{IsSendable, IsSendableKey, IsSendableOwner, IsSent, IsSentClass, IsSound}
 use Rattle.op_use.specs.SoundSet.{is_supported_type}
 use Rattle.op_use.specs.UpdateMeaning.{AppendsToSet, CreatesSet, DeletesData, DeletesName, DeletesSet, MeansUncut}
@@ -39,9 +40,6 @@ use Rattle.op_use.proofs.Meaning.{delete_by_rdata_changes, delete_rrset_changes}
 use Rattle.op_use.specs.Zone.{Zone}
 
 -- ---- uncut bytes
-
-whole_of : {X : Type 0} (xs kept lost : List X) → xs ≡ kept ++ lost → lost ≡ [] → kept ≡ xs
-whole_of xs kept lost front none = sym (front ∙ ap (λ ys. kept ++ ys) none ∙ append-nil kept)
 
 same_sections : (m : MessageValue) (limit : ℕ) (B : List ℕ) (c : MessageValue) (k : IsCut m limit B c) → IsUncut k
     → sections_of c ≡ sections_of m
@@ -121,21 +119,30 @@ none_class = record { reads = refl; narrow = omega arith }
 any_class : IsSentClass classes.ANY
 any_class = record { reads = refl; narrow = omega arith }
 
--- the records of a set
-each_fits : (t : RecordType) → is_supported_type t ≡ true → (rs : List (Record RData))
-    → AllByRecursion (λ (r : Record RData). type_of_data r.rdata ≡ t) rs → AllByRecursion FitsRecord rs
-    → AllByRecursion (FitsPlain op_codes.Update) rs
-each_fits t plain [] own fits = tt
-each_fits t plain (r ∷ rs) own fits = (
-  record { fits = fits.0; given = λ _. refl; placed = ap is_additional_type own.0 ∙ not_additional t plain },
-  each_fits t plain rs own.1 fits.1,
-)
+-- records that a change keeps on the wire, with their types
+each_changed : (f : Record RData → Record RData)
+    → ((r : Record RData) → type_of_data (f r).rdata ≡ type_of_data r.rdata)
+    → ((r : Record RData) → is_opt_type (type_of_data r.rdata) ≡ false → FitsRecord r → FitsRecord (f r))
+    → (s : SetValue) → IsSound s → is_supported_type s.record_type ≡ true → IsSent s
+    → All (FitsPlain op_codes.Update) (map f s.records)
+each_changed f same keeps s sound plain sent = All-from_recursion (FitsPlain op_codes.Update) _
+    (each s.records sound.own_type (recursion_from_All FitsRecord s.records sent.records)) where
+      each : (rs : List (Record RData)) → AllByRecursion (λ (r : Record RData). type_of_data r.rdata ≡ s.record_type) rs
+          → AllByRecursion FitsRecord rs → AllByRecursion (FitsPlain op_codes.Update) (map f rs)
+      each [] own fits = tt
+      each (r ∷ rs) own fits = (
+        record {
+          fits = keeps r (ap is_opt_type own.0 ∙ not_opt s.record_type plain) fits.0;
+          given = λ _. refl;
+          placed = ap is_additional_type (same r ∙ own.0) ∙ not_additional s.record_type plain;
+        },
+        each rs own.1 fits.1,
+      )
 
 records_fit : (s : SetValue) → IsSound s → is_supported_type s.record_type ≡ true → IsSent s
     → All (FitsPlain op_codes.Update) s.records
-records_fit s sound plain sent =
-    All-from_recursion (FitsPlain op_codes.Update) s.records
-    (each_fits s.record_type plain s.records sound.own_type (recursion_from_All FitsRecord s.records sent.records))
+records_fit s sound plain sent = subst (All (FitsPlain op_codes.Update)) (map-id s.records)
+    (each_changed (λ r. r) (λ r. refl) (λ r _ fits. fits) s sound plain sent)
 
 -- the zone's question, and EDNS
 zone_fits : (origin : NameValue) (c : DNSClass) (m : Sections) → origin.absolute ≡ true → IsSentClass c
@@ -195,26 +202,6 @@ in_none r plain fits = record {
   payload_reads = λ e. absurd (true≢false (sym e ∙ plain));
   not_flushing = λ e. absurd (true≢false (sym e ∙ plain));
 }
-
--- records that a change keeps on the wire, with their types
-each_changed : (f : Record RData → Record RData)
-    → ((r : Record RData) → type_of_data (f r).rdata ≡ type_of_data r.rdata)
-    → ((r : Record RData) → is_opt_type (type_of_data r.rdata) ≡ false → FitsRecord r → FitsRecord (f r))
-    → (s : SetValue) → IsSound s → is_supported_type s.record_type ≡ true → IsSent s
-    → All (FitsPlain op_codes.Update) (map f s.records)
-each_changed f same keeps s sound plain sent = All-from_recursion (FitsPlain op_codes.Update) _
-    (each s.records sound.own_type (recursion_from_All FitsRecord s.records sent.records)) where
-      each : (rs : List (Record RData)) → AllByRecursion (λ (r : Record RData). type_of_data r.rdata ≡ s.record_type) rs
-          → AllByRecursion FitsRecord rs → AllByRecursion (FitsPlain op_codes.Update) (map f rs)
-      each [] own fits = tt
-      each (r ∷ rs) own fits = (
-        record {
-          fits = keeps r (ap is_opt_type own.0 ∙ not_opt s.record_type plain) fits.0;
-          given = λ _. refl;
-          placed = ap is_additional_type (same r ∙ own.0) ∙ not_additional s.record_type plain;
-        },
-        each rs own.1 fits.1,
-      )
 
 pub delete_by_rdata_fits : (id : ℕ) (s : SetValue) (origin : NameValue) (use_edns : Bool) → IsSendable origin s
     → Fits (update_message id use_edns (delete_by_rdata s origin))

@@ -5,7 +5,6 @@ use Rattle.base.specs.declared.rr_key.RrKey.{RrKey}
 use Rattle.base_data.specs.SameData.{same_data}
 use Rattle.base_data.specs.declared.rdata.RData.{RData}
 use Rattle.op_use.proofs.AfterSteps.{map_after, more_after}
-use Rattle.op_use.proofs.AppliedData.{Distinct, distinct_joined, distinct_without}
 use Rattle.op_use.proofs.KeySets.{Sets, each_key, put_beside, put_here}
 use Rattle.op_use.proofs.UpdateSteps.{Changes, moves, stays}
 use Rattle.op_use.proofs.ZoneSteps.{same_key}
@@ -14,11 +13,11 @@ use Rattle.op_use.specs.CurrentSets.{renewed_set}
 use Rattle.op_use.specs.HeldZone.{HeldZone}
 use Rattle.op_use.specs.NamedChanges.{set_key}
 use Rattle.op_use.specs.MapUpdates.{HasSets, HoldsAt, IsSetTo, IsUpdated}
-use Rattle.rr.proofs.WithoutSteps.{without_none}
+use Rattle.rr.proofs.SetSteps.{without_none}
+use Rattle.rr.proofs.SetTidy.{distinct_joined, distinct_left, distinct_none}
 use Rattle.rr.specs.Record.{record_key}
 use Rattle.rr.specs.RecordSet.{SetValue}
-use Rattle.rr.specs.SetChanges.{joined}
-use Rattle.rr.specs.SetUpdates.{has_data_of_one, last_ttl, with_records, without, without_data}
+use Rattle.rr.specs.SetChanges.{has_data_of, joined, last_ttl, with_records, without, without_data}
 use Rattle.rr.specs.declared.record.Record.{Record}
 use Rattle.std.proofs.Common.{ap, inl, inr, refl, subst, sym, ◌∙◌, ◌⊎◌}
 use Rattle.std.proofs.lemmas.Map.Entries.{lookup-filter-keys}
@@ -30,7 +29,7 @@ use Rattle.std.specs.List.{IsDistinct, list_any}
 use Rattle.std.specs.Map.Calls.{RetainsPairs}
 use Rattle.std.specs.Map.{lookup}
 use Rattle.std.specs.Ordering.{on}
-use Rattle.std.specs.Prelude.{Bool, IfSome, List, None, Option, Some, [], cond, false, true, ◌++◌}
+use Rattle.std.specs.Prelude.{Bool, IfSome, List, None, Option, Some, [], cond, false, not, true, ◌++◌}
 use Rattle.std.specs.Prelude.{◌∷◌, ◌≡◌, ◌≢◌}
 
 abbrev Map : Type 0
@@ -42,10 +41,6 @@ pub distinct_there : (class : DNSClass) (k : RrKey) (m : Map) (o : Option SetVal
     → IfSome o (λ (s : SetValue). IsDistinct (on (λ (r : Record RData). r.rdata) same_data) s.records)
 distinct_there class k m (Some s) h e = (h k s (sym e)).distinct
 distinct_there class k m None h e = tt
-
-none_distinct : Distinct []
-unfolding IsDistinct
-none_distinct = tt
 
 -- the sets whose keys pass a test
 pub map_part : (class : DNSClass) (p : RrKey → Bool) (m n : Map)
@@ -85,15 +80,15 @@ module _ (class : DNSClass) (k : RrKey) (m n : Map) where
   map_out puts = kept_map class k [] m n (set_out puts)
 
   -- none, where no records are left
-  pub none_left : (rs : List (Record RData)) (s t : SetValue) → tree.get key_cmp m k ≡ Some s → t ≡ without_data rs s
-      → t.records ≡ [] → Sets k None m n → IsSetTo class k (without rs (records_at m k)) m n
-  none_left rs s t e is none puts = subst (λ xs. IsSetTo class k xs m n) (sym none
-      ∙ ap (λ (x : SetValue). x.records) is ∙ left (list_any (has_data_of_one rs) s.records) refl
-      ∙ ap (λ o. without rs (records_in o)) (sym e)) (set_out puts) where
-        left : (b : Bool) → list_any (has_data_of_one rs) s.records ≡ b
-            → (cond b (with_records s (without rs s.records)) s).records ≡ without rs s.records
+  pub none_left : (r : Record RData) (s t : SetValue) → tree.get key_cmp m k ≡ Some s → t ≡ without_data r s
+      → t.records ≡ [] → Sets k None m n → IsSetTo class k (without r (records_at m k)) m n
+  none_left r s t e is none puts = subst (λ xs. IsSetTo class k xs m n) (sym none
+      ∙ ap (λ (x : SetValue). x.records) is ∙ left (list_any (has_data_of r) s.records) refl
+      ∙ ap (λ o. without r (records_in o)) (sym e)) (set_out puts) where
+        left : (b : Bool) → list_any (has_data_of r) s.records ≡ b
+            → (cond b (with_records s (without r s.records)) s).records ≡ without r s.records
         left true some = refl
-        left false none = sym (without_none rs s.records none)
+        left false none = sym (without_none r s.records none)
 
   -- t, which is put where a set was taken out
   module _ (mid : Map) (t : SetValue) (out : Sets k None m mid) (puts : Sets k (Some t) mid n) where
@@ -139,25 +134,26 @@ module _ (class : DNSClass) (k : RrKey) (m n : Map) where
             own_key = sym own;
             own_class = refl;
             filled = some [];
-            distinct = distinct_joined r [] none_distinct;
+            distinct = distinct_joined r [] distinct_none;
           }
 
-    -- the set without the data of some records, where some are left
-    pub set_left : (rs : List (Record RData)) (s : SetValue) → IsZoneSet class k s → tree.get key_cmp m k ≡ Some s
-        → t ≡ without_data rs s → t.records ≢ [] → IsSetTo class k (without rs (records_at m k)) m n
-    set_left rs s old e is full = subst (λ xs. IsSetTo class k (without rs xs) m n) (sym (ap records_in e))
-        (by (list_any (has_data_of_one rs) s.records) refl is) where
-          by : (b : Bool) → list_any (has_data_of_one rs) s.records ≡ b
-              → t ≡ cond b (with_records s (without rs s.records)) s
-              → IsSetTo class k (without rs s.records) m n
+    -- the set without the data of a record, where some are left
+    pub set_left : (r : Record RData) (s : SetValue) → IsZoneSet class k s → tree.get key_cmp m k ≡ Some s
+        → t ≡ without_data r s → t.records ≢ [] → IsSetTo class k (without r (records_at m k)) m n
+    set_left r s old e is full = subst (λ xs. IsSetTo class k (without r xs) m n) (sym (ap records_in e))
+        (by (list_any (has_data_of r) s.records) refl is) where
+          by : (b : Bool) → list_any (has_data_of r) s.records ≡ b
+              → t ≡ cond b (with_records s (without r s.records)) s
+              → IsSetTo class k (without r s.records) m n
           by true some f = set_put _ (ap (λ (x : SetValue). x.records) f) (record {
             own_key = ap set_key f ∙ old.own_key;
             own_class = ap (λ (x : SetValue). x.dns_class) f ∙ old.own_class;
             filled = full;
-            distinct = subst (λ (x : SetValue). Distinct x.records) (sym f)
-                (distinct_without rs s.records old.distinct);
+            distinct = subst (λ (x : SetValue). IsDistinct (on (λ (q : Record RData). q.rdata) same_data) x.records)
+                (sym f)
+                (distinct_left (λ x. not (has_data_of r x)) s.records old.distinct);
           }) (inr (subst (λ (x : SetValue). x.ttl ≡ last_ttl x.records) (sym f) refl))
-          by false none f = set_put _ (ap (λ (x : SetValue). x.records) f ∙ sym (without_none rs s.records none))
+          by false none f = set_put _ (ap (λ (x : SetValue). x.records) f ∙ sym (without_none r s.records none))
               (subst (λ x. IsZoneSet class k x) (sym f) old) (inl (e ∙ ap Some (sym f)))
 
 -- one after the other

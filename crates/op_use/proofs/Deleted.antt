@@ -1,9 +1,9 @@
 -- What a deletion of sets makes of a zone.
-use Rattle.base.proofs.names.KeyLemmas.{key_cmp-exact, key_cmp-total}
+use Rattle.base.proofs.names.KeyLemmas.{key_cmp-total}
 use Rattle.base.specs.RrKey.{key_cmp}
 use Rattle.base.specs.declared.rr_key.RrKey.{RrKey}
 use Rattle.base_data.specs.declared.rdata.RData.{RData}
-use Rattle.op_use.proofs.ZoneSteps.{get_with_set, same_sets}
+use Rattle.op_use.proofs.ZoneSteps.{get_with_set, retained, same_sets}
 use Rattle.op_use.specs.NamedChanges.{less_key, less_name}
 use Rattle.op_use.specs.Server.{goes_with, is_any, is_under}
 use Rattle.rr.specs.Record.{record_key, type_of_record}
@@ -13,16 +13,16 @@ use Rattle.std.proofs.Common.{ap, refl, sym, ◌∙◌}
 use Rattle.std.specs.Cmp.{eq_by_cmp_equiv}
 use Rattle.std.specs.FinMap as fin
 use Rattle.std.specs.FinMap.{FinMap}
-use Rattle.std.specs.Prelude.{Bool, List, None, Option, [], cond, false, not, true, ◌&&◌, ◌||◌, ◌≡◌}
+use Rattle.std.specs.Prelude.{Bool, List, None, [], cond, false, not, true, ◌&&◌, ◌||◌, ◌≡◌}
 
 spared : (o g : Bool) → not (o && not g) ≡ (not o || g)
 spared true true = refl
 spared true false = refl
 spared false g = refl
 
-flipped : (b : Bool) (o : Option (List Datum)) → cond (not b) o None ≡ cond b None o
-flipped true o = refl
-flipped false o = refl
+pub turned : {A : Type 0} (b : Bool) (x y : A) → cond (not b) x y ≡ cond b y x
+turned true x y = refl
+turned false x y = refl
 
 module _ (z : Zone) (r : Record RData) where
   deleted_at : (y g : Bool)
@@ -34,11 +34,10 @@ module _ (z : Zone) (r : Record RData) where
   deleted_at true g = ap (λ (p : RrKey → Bool). record z { sets = fin.retain_keys z.sets p })
       (λ i k. spared (is_owned r.name k) (is_guarded z r.name k.record_type) i)
   deleted_at false true = ap (λ (m : FinMap key_cmp (List Datum)). record z { sets = m })
-      (same_sets _ _ (λ q. fin.get-retain_keys z.sets (λ k. true) q (λ x e. refl)))
+      (same_sets _ _ (retained z.sets (λ k. true)))
   deleted_at false false = ap (λ (m : FinMap key_cmp (List Datum)). record z { sets = m }) (same_sets _ _ (λ q.
-      fin.get-retain_keys z.sets (λ k. not (is_under r k)) q
-      (λ x e. ap (λ k. not (is_under r k)) (sym (key_cmp-exact q x e)))
-      ∙ flipped (is_under r q) (fin.get z.sets q)
+      retained z.sets (λ k. not (is_under r k)) q
+      ∙ turned (is_under r q) (fin.get z.sets q) None
       ∙ ap (λ b. cond b None (fin.get z.sets q)) ((eq_by_cmp_equiv key_cmp-total).symm (record_key r) q)
       ∙ sym (get_with_set z.sets (record_key r) [] q)))
 

@@ -1,11 +1,10 @@
 -- The records under a key follow the data of the zone.
-use Rattle.base.proofs.names.KeyLemmas.{key_cmp-exact}
 use Rattle.base.specs.RrKey.{key_cmp}
 use Rattle.base.specs.declared.rr_key.RrKey.{RrKey}
 use Rattle.base_data.specs.declared.rdata.RData.{RData}
 use Rattle.op.specs.declared.response_code.ResponseCode.TheVariants.{NotImp}
 use Rattle.op_use.proofs.AppliedData.{joined_data, without_data_of}
-use Rattle.op_use.proofs.ZoneSteps.{at_after_put, same_key}
+use Rattle.op_use.proofs.ZoneSteps.{at_after_put, retained, same_key}
 use Rattle.op_use.specs.AppliedMeaning.{RecordsHoldTheData}
 use Rattle.op_use.specs.AppliedRecords.{after_by, after_update, records_after, records_answered}
 use Rattle.op_use.specs.Applying.{is_all_supported}
@@ -14,8 +13,7 @@ use Rattle.op_use.specs.Server.{StepCode, OfAny, OfNone, OfNothing, OfZone, Sect
 use Rattle.op_use.specs.Server.{fault, goes_with, is_cname, is_needed, removed, is_under, update, update_by, use_of}
 use Rattle.rr.specs.Record.{record_key, type_of_record}
 use Rattle.op_use.specs.Zone.{Datum, Zone, at, put}
-use Rattle.rr.specs.SetChanges.{joined}
-use Rattle.rr.specs.SetUpdates.{without}
+use Rattle.rr.specs.SetChanges.{joined, without}
 use Rattle.rr.specs.declared.record.Record.{Record}
 use Rattle.std.proofs.Common.{ap, refl, sym, ◌∙◌}
 use Rattle.std.specs.FinMap as fin
@@ -44,9 +42,9 @@ module _ (z : Zone) (r : Record RData) (k : RrKey) (xs : List (Record RData)) (s
   added_follows false a false = put_follows (joined r) (λ ds. added ds r) (joined_data r)
 
   removed_follows : (n : Bool) → at (cond n z (put z (record_key r) (removed (at z (record_key r)) r))) k
-      ≡ map datum_of (cond (not n && is_under r k) (without (r ∷ []) xs) xs)
+      ≡ map datum_of (cond (not n && is_under r k) (without r xs) xs)
   removed_follows true = same
-  removed_follows false = put_follows (without (r ∷ [])) (λ ds. removed ds r) (without_data_of r)
+  removed_follows false = put_follows (without r) (λ ds. removed ds r) (without_data_of r)
 
   gone : (b : Bool) → unwrap_or (cond (not b) (fin.get z.sets k) None) [] ≡ map datum_of (cond b [] xs)
   gone true = refl
@@ -55,8 +53,7 @@ module _ (z : Zone) (r : Record RData) (k : RrKey) (xs : List (Record RData)) (s
   follows_by : (how : UseValue) → at (update_by how z r) k ≡ map datum_of (after_by how z r k xs)
   follows_by OfZone = added_follows (is_cname (type_of_record r)) _ _
   follows_by OfAny = ap (λ o. unwrap_or o [])
-      (fin.get-retain_keys z.sets (λ q. not (goes_with z r q)) k
-      (λ q e. ap (λ p. not (goes_with z r p)) (sym (key_cmp-exact k q e)))) ∙ gone (goes_with z r k)
+      (retained z.sets (λ q. not (goes_with z r q)) k) ∙ gone (goes_with z r k)
   follows_by OfNone = removed_follows (is_needed z r)
   follows_by OfNothing = same
 

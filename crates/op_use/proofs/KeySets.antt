@@ -15,6 +15,7 @@ use Rattle.std.proofs.Math.Bool.{or-false, or-true}
 use Rattle.std.proofs.lemmas.Bool.{true≢false}
 use Rattle.std.proofs.lemmas.List.Folds.{list_any-append}
 use Rattle.std.proofs.lemmas.List.{map-append, take_more}
+use Rattle.std.proofs.lemmas.Map.Made.{is_some-lookup}
 use Rattle.std.proofs.lemmas.Map.Views.{any-filter_same}
 use Rattle.std.specs.BTreeMap as tree
 use Rattle.std.specs.BTreeMap.{BTreeMap, is_at}
@@ -22,7 +23,7 @@ use Rattle.std.specs.Cmp.{eq_by_cmp_equiv}
 use Rattle.std.specs.List.{filter}
 use Rattle.std.specs.Map.{keys_of, lookup}
 use Rattle.std.specs.Ordering.{eq_by_cmp}
-use Rattle.std.specs.Prelude.{Bool, List, None, Option, Some, [], cond, false, is_some, length, slice_index_or, take}
+use Rattle.std.specs.Prelude.{Bool, List, None, Option, [], cond, false, is_some, length, slice_index_or, take}
 use Rattle.std.specs.Prelude.{true, ℕ, ◌&&◌, ◌++◌, ◌+◌, ◌<◌, ◌||◌, ◌∷◌, ◌≡◌}
 
 -- what holds of a key and of all others
@@ -51,30 +52,24 @@ emptied (x ∷ xs) h = absurd (true≢false (sym (h (omega arith))))
 
 -- one key more
 pub last_here : (k : RrKey) (ks : List RrKey) → has_key k (ks ++ k ∷ []) ≡ true
-last_here k ks = list_any-append (λ x. eq_by_cmp key_cmp x k) ks (k ∷ [])
+last_here k ks = list_any-append (eq_by_cmp key_cmp k) ks (k ∷ [])
     ∙ ap (λ b. has_key k ks || (b || false)) (tied k) ∙ or-true (has_key k ks)
 
 pub last_beside : (k q : RrKey) (ks : List RrKey) → eq_by_cmp key_cmp k q ≡ false
     → has_key q (ks ++ k ∷ []) ≡ has_key q ks
-last_beside k q ks e = list_any-append (λ x. eq_by_cmp key_cmp x q) ks (k ∷ [])
-    ∙ ap (λ b. has_key q ks || (b || false)) e ∙ or-false (has_key q ks)
+last_beside k q ks e = list_any-append (eq_by_cmp key_cmp q) ks (k ∷ [])
+    ∙ ap (λ b. has_key q ks || (b || false)) ((eq_by_cmp_equiv key_cmp-total).symm q k ∙ e) ∙ or-false (has_key q ks)
 
 module _ {X : Type 0} where
   -- a key is in a map where something stands under it
-  found_at : (b : Bool) (x : X) (o : Option X) (c : Bool) → c ≡ is_some o → (b || c) ≡ is_some (cond b (Some x) o)
-  found_at true x o c h = refl
-  found_at false x o c h = h
-
   pub key_in : (q : RrKey) (es : List (RrKey × X)) → has_key q (keys_of es) ≡ is_some (lookup (is_at (key_cmp q)) es)
-  key_in q [] = refl
-  key_in q (e ∷ es) = ap (λ b. b || has_key q (keys_of es)) ((eq_by_cmp_equiv key_cmp-total).symm e.0 q)
-      ∙ found_at (eq_by_cmp key_cmp q e.0) e.1 (lookup (is_at (key_cmp q)) es) (has_key q (keys_of es)) (key_in q es)
+  key_in q es = sym (is_some-lookup (is_at (key_cmp q)) es)
 
   -- so is one of an owner's
   pub owned_key : (owner : NameValue) (q : RrKey) (m : BTreeMap RrKey X)
       → has_key q (filter (λ k. is_owned owner k) (tree.keys m)) ≡ (is_owned owner q && is_some (tree.get key_cmp m q))
-  owned_key owner q m = any-filter_same (λ k. eq_by_cmp key_cmp k q) (λ k. is_owned owner k) (is_owned owner q)
-      (λ k e. ap (λ x. is_owned owner x) (same_key k q e)) (tree.keys m)
+  owned_key owner q m = any-filter_same (eq_by_cmp key_cmp q) (λ k. is_owned owner k) (is_owned owner q)
+      (λ k e. ap (λ x. is_owned owner x) (sym (same_key q k e))) (tree.keys m)
       ∙ ap (λ b. is_owned owner q && b) (key_in q m.entries)
 
   pub none_in : (m : BTreeMap RrKey X) (q : RrKey) → m.entries ≡ [] → tree.get key_cmp m q ≡ None

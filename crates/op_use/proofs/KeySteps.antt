@@ -6,21 +6,15 @@ use Rattle.base.specs.names.NameOrderLaws.{same_by-tie}
 use Rattle.base.specs.RecordType.{same_type, type_cmp, type_number, type_rank}
 use Rattle.base.specs.RrKey.{key_cmp, key_of}
 use Rattle.base.specs.declared.record_type.RecordType.{RecordType}
-use Rattle.std.proofs.Common.{refl, sym, ◌∙◌}
+use Rattle.std.proofs.Common.{◌∙◌}
 use Rattle.std.proofs.Math.Bool.{and_comm}
-use Rattle.std.specs.Ordering.{eq_by_cmp, is_eq, ordering_then}
+use Rattle.std.specs.Cmp.{tied_then}
+use Rattle.std.specs.Ordering.{eq_by_cmp}
 use Rattle.std.specs.Prelude.{◌&&◌, ◌≡◌}
-use Rattle.std.specs.declared.cmp.Ordering.TheVariants.{Equal, Greater, Less}
-use Rattle.std.specs.declared.cmp.Ordering.{Ordering}
-
-both_eq : (x y : Ordering) → is_eq (ordering_then x y) ≡ (is_eq x && is_eq y)
-both_eq Less y = refl
-both_eq Equal y = refl
-both_eq Greater y = refl
 
 -- keys are the same where types and names are
 pub same_key_is : (a b : NameValue) (s t : RecordType)
     → (same_type s t && same_name a b) ≡ eq_by_cmp key_cmp (key_of a s) (key_of b t)
 same_key_is a b s t = and_comm (same_type s t) (same_name a b)
     ∙ (λ i. same_by-tie folded a b i && keys_match type_number type_rank s t i)
-    ∙ sym (both_eq (lower_cmp (lowered a) (lowered b)) (type_cmp s t))
+    ∙ tied_then (lower_cmp (lowered a) (lowered b)) (type_cmp s t)

@@ -4,7 +4,7 @@ use Rattle.base.specs.declared.dns_class.DNSClass.{DNSClass}
 use Rattle.base.specs.declared.rr_key.RrKey.{RrKey}
 use Rattle.base_data.specs.SameData.{same_data}
 use Rattle.base_data.specs.declared.rdata.RData.{RData}
-use Rattle.op_use.proofs.MergeSteps.{laws}
+use Rattle.rr.proofs.SetLaws.{laws}
 use Rattle.op_use.proofs.ZoneSteps.{same_key}
 use Rattle.op_use.specs.Applying.{records_in}
 use Rattle.op_use.specs.MapFaults.{AreComplete, asks_for, complete_at, is_by_value, there_under}

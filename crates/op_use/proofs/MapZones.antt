@@ -10,6 +10,7 @@ use Rattle.op_use.specs.NamedChanges.{datum_of}
 use Rattle.op_use.specs.Zone.{Datum, at, has_set, has_type_at, is_owned}
 use Rattle.rr.specs.RecordSet.{SetValue}
 use Rattle.std.proofs.Common.{ap, refl, sym, ◌∙◌}
+use Rattle.std.proofs.Math.Bool.{or_assoc, or_comm, or_self}
 use Rattle.std.proofs.lemmas.List.{nil_from_length}
 use Rattle.std.specs.BTreeMap as tree
 use Rattle.std.specs.BTreeMap.{BTreeMap, is_at}
@@ -50,14 +51,8 @@ pub data_at : (origin : NameValue) (class : DNSClass) (m : BTreeMap RrKey SetVal
 data_at origin class m k = ap (λ o. unwrap_or o []) (get_zone origin class m k) ∙ data_in (tree.get key_cmp m k)
 
 -- whether a zone's keys have one that passes a test
-again : (b c : Bool) → (b || c) ≡ (b || (b || c))
-again true c = refl
-again false c = refl
-
 exchanged : (b c d : Bool) → (b || (c || d)) ≡ (c || (b || d))
-exchanged true true d = refl
-exchanged true false d = refl
-exchanged false c d = refl
+exchanged b c d = sym (or_assoc b c d) ∙ ap (λ x. x || d) (or_comm b c) ∙ or_assoc c b d
 
 any_put_at : (p : RrKey → Bool) (k : RrKey) (v : List Datum) (e : RrKey × List Datum) (es : List (RrKey × List Datum))
     (o : Ordering) → key_cmp k e.0 ≡ o
@@ -65,7 +60,8 @@ any_put_at : (p : RrKey → Bool) (k : RrKey) (v : List Datum) (e : RrKey × Lis
     → list_any p (map (λ e. e.0) (by_order o ((k, v) ∷ e ∷ es) ((e.0, v) ∷ es) (e ∷ fin.put key_cmp k v es)))
     ≡ (p k || (p e.0 || list_any p (map (λ e. e.0) es)))
 any_put_at p k v e es Less t h = refl
-any_put_at p k v e es Equal t h = again (p e.0) (list_any p (map (λ e. e.0) es))
+any_put_at p k v e es Equal t h = ap (λ b. b || list_any p (map (λ e. e.0) es)) (sym (or_self (p e.0)))
+    ∙ or_assoc (p e.0) (p e.0) (list_any p (map (λ e. e.0) es))
     ∙ ap (λ (q : RrKey). p q || (p e.0 || list_any p (map (λ e. e.0) es))) (sym (key_cmp-exact k e.0 t))
 any_put_at p k v e es Greater t h = ap (λ b. p e.0 || b) h ∙ exchanged (p e.0) (p k) (list_any p (map (λ e. e.0) es))
 
@@ -79,7 +75,7 @@ pub any_insert : (p : RrKey → Bool) (m : FinMap key_cmp (List Datum)) (k : RrK
 any_insert p m k v = ap (λ es. list_any p (map (λ e. e.0) es)) (fin.entries-insert key_cmp-total m k v)
     ∙ any_put p k v (fin.entries m)
 
-no_entries : fin.entries (fin.empty {X = List Datum} {R = key_cmp}) ≡ []
+pub no_entries : fin.entries (fin.empty {X = List Datum} {R = key_cmp}) ≡ []
 no_entries = nil_from_length _ (sym (fin.len-entries (fin.empty {X = List Datum} {R = key_cmp}))
     ∙ fin.len-empty key_cmp (List Datum))
 

@@ -1,12 +1,15 @@
 -- what the builders' updates make of a zone
-use Rattle.op_use.proofs.Deleted.{deleted_is}
+use Rattle.op_use.proofs.Deleted.{deleted_is, turned}
 use Rattle.std.specs.Prelude.{Bool, true, false, not, List, [], ◌∷◌, ◌++◌, ◌≡◌, ◌≢◌, ◌&&◌, ◌||◌, cond, map, length}
 use Rattle.std.specs.Prelude.{nat_le, Option, Some, None, unwrap_or, is_some}
 use Rattle.std.proofs.Common.{refl, sym, ap, ◌∙◌, subst, ◌⊎◌, inl, inr}
 use Rattle.std.specs.List.{list_any, list_all, fold, AllByRecursion, IsDistinct}
 use Rattle.std.specs.FinMap as fin
 use Rattle.std.specs.Ordering.{on, eq_by_cmp}
-use Rattle.std.proofs.lemmas.Bool.{cond-true, cond-false, and_parts}
+use Rattle.std.proofs.Math.Bool.{and-false, and-true}
+use Rattle.std.proofs.lemmas.Bool.{cases_cond, cond-true, cond-false, and_parts}
+use Rattle.std.proofs.lemmas.Grind.{fold-append}
+use Rattle.std.proofs.lemmas.List.Folds.{list_all-map}
 use Rattle.base.specs.names.Labels.{NameValue}
 use Rattle.base.specs.names.NameOrder.{folded, is_zone_of, same_name}
 use Rattle.base.specs.names.NameOrderLaws.{same_by-equiv}
@@ -51,21 +54,13 @@ served : (z : Zone) (m : Sections) (p : StepCode) → zone_fault z m.zones ≡ N
 served z m p a b c = ap (answer z m.updates) ((λ i. and_then (a i) (and_then (b i) (c i))) ∙ and_then_none p)
 
 -- the answer where one condition decides
-finish : (z w : Zone) (rs : List (Record RData)) (code : ResponseCode) (b : Bool) → fold update z rs ≡ w
+decided : (z w : Zone) (rs : List (Record RData)) (code : ResponseCode) (b : Bool) → (b ≡ true → fold update z rs ≡ w)
     → answer z rs (unless b code) ≡ cond b (NoError, w) (code, z)
-finish z w rs code true h = ap (λ v. (NoError, v)) h
-finish z w rs code false h = refl
-
-turned : {A : Type 0} (b : Bool) (x y : A) → cond (not b) x y ≡ cond b y x
-turned true x y = refl
-turned false x y = refl
+decided z w rs code true h = ap (λ v. (NoError, v)) (h refl)
+decided z w rs code false h = refl
 
 same_itself : (n : NameValue) → same_name n n ≡ true
 same_itself n = (same_by-equiv folded).refl n
-
-never : (b c : Bool) → (false || ((b && (false || false)) && c)) ≡ false
-never true c = refl
-never false c = refl
 
 owner_inside : (z : Zone) (named owner : NameValue) (class : DNSClass) → IsFor z named owner class
     → is_zone_of z.origin owner ≡ true
@@ -108,7 +103,8 @@ create_changes z s origin (g, none) =
     served z (create s origin) (unless (not (has_set z k)) YXRRSet) (zone_passes z origin s.name s.dns_class g.place)
     (no_such z s.name t (owner_inside z origin s.name s.dns_class g.place) (no_any t g.ordinary))
     (scan_passes z k t (no_meta t g.ordinary) s.records (given_at z origin s g))
-    ∙ finish z (merged z s) s.records YXRRSet (not (has_set z k)) (adds z origin s g none) ∙ turned (has_set z k) _ _
+    ∙ decided z (merged z s) s.records YXRRSet (not (has_set z k)) (λ _. adds z origin s g none)
+    ∙ turned (has_set z k) _ _
 
 pub append_changes : (z : Zone) (s : SetValue) (origin : NameValue) (must_exist : Bool) → MayAddTo origin s z
     → serve z (append s origin must_exist) ≡ after_append s must_exist z
@@ -118,7 +114,8 @@ append_changes z s origin true (g, none) =
     served z (append s origin true) (unless (has_set z k) NXRRSet) (zone_passes z origin s.name s.dns_class g.place)
     (such z s.name t (owner_inside z origin s.name s.dns_class g.place) (no_any t g.ordinary))
     (scan_passes z k t (no_meta t g.ordinary) s.records (given_at z origin s g))
-    ∙ finish z (merged z s) s.records NXRRSet (has_set z k) (adds z origin s g none) ∙ sym (turned (has_set z k) _ _)
+    ∙ decided z (merged z s) s.records NXRRSet (has_set z k) (λ _. adds z origin s g none)
+    ∙ sym (turned (has_set z k) _ _)
 append_changes z s origin false (g, none) =
     let t = s.record_type in
     let k = set_key s in
@@ -135,7 +132,7 @@ taken_one z k t r soa ns h =
     cond-false _ z _ (ap (λ (p : Bool × Bool). p.0
     || ((same_name r.name z.origin && (p.0 || p.1)) && nat_le (length (at z (record_key r))) 1))
     (λ i. (no_start i, no_server i))
-    ∙ never (same_name r.name z.origin) _)
+    ∙ ap (λ b. b && nat_le (length (at z (record_key r))) 1) (and-false (same_name r.name z.origin)))
     ∙ ap (λ q. put z q (removed (at z q) r)) h.key
 
 takes : (z : Zone) (k : RrKey) (t : RecordType) → is_soa t ≡ false → is_ns t ≡ false
@@ -176,16 +173,12 @@ delete_by_rdata_changes z s origin g =
     (takes_pass z (set_key s) t (no_meta t g.ordinary) s.records (given_at z origin s g))
     ∙ ap (λ w. (NoError, w)) (takes_out z origin s g)
 
-free_all : (b : Bool) → (b && (false || false)) ≡ false
-free_all true = refl
-free_all false = refl
-
 not_guarded : (z : Zone) (owner : NameValue) (t : RecordType) → is_ordinary t ≡ true → is_guarded z owner t ≡ false
 not_guarded z owner t o =
     let soa : is_soa t ≡ false = no_soa t o in
     let ns : is_ns t ≡ false = no_ns t o in
     ap (λ (p : Bool × Bool). same_name owner z.origin && (p.0 || p.1)) (λ i. (soa i, ns i))
-    ∙ free_all (same_name owner z.origin)
+    ∙ and-false (same_name owner z.origin)
 
 pub delete_rrset_changes : (z : Zone) (r : Record RData) (origin : NameValue) → MayDeleteIn origin r z
     → serve z (delete_rrset r origin) ≡ after_delete_rrset r z
@@ -261,11 +254,6 @@ each_met : (z : Zone) (k : RrKey) (qs rs : List (Record RData)) → Under k qs �
 each_met z k qs [] g h = refl
 each_met z k qs (r ∷ rs) g h = λ i. met_under z k r qs h.0 g i && each_met z k qs rs g h.1 i
 
-one : (a b : Bool) → ((a && b) && true) ≡ ((a && true) && b)
-one true true = refl
-one true false = refl
-one false b = refl
-
 four : (a b c : Bool) → ((a && b) && (c && b)) ≡ ((a && c) && b)
 four true true c = refl
 four true false true = refl
@@ -275,19 +263,13 @@ four false b c = refl
 -- one condition beside each
 beside : (f : Record RData → Bool) (b : Bool) (r : Record RData) (rs : List (Record RData))
     → list_all (λ q. f q && b) (r ∷ rs) ≡ (list_all f (r ∷ rs) && b)
-beside f b r [] = one (f r) b
+beside f b r [] = and-true (f r && b) ∙ ap (λ a. a && b) (sym (and-true (f r)))
 beside f b r (q ∷ rs) = ap (λ c. (f r && b) && c) (beside f b q rs) ∙ four (f r) b (list_all f (q ∷ rs))
 
 any_without_ttl : (d : Datum) (rs : List (Record RData))
     → list_any (is_data_of d) (map without_ttl rs) ≡ list_any (is_data_of d) rs
 any_without_ttl d [] = refl
 any_without_ttl d (r ∷ rs) = ap (λ b. is_data_of d r || b) (any_without_ttl d rs)
-
-all_without_ttl : (ds : List Datum) (rs : List (Record RData))
-    → list_all (λ r. list_any (λ d. is_data_of d r) ds) (map without_ttl rs) ≡ list_all
-    (λ r. list_any (λ d. is_data_of d r) ds) rs
-all_without_ttl ds [] = refl
-all_without_ttl ds (r ∷ rs) = ap (λ b. list_any (λ d. is_data_of d r) ds && b) (all_without_ttl ds rs)
 
 data_without_ttl : (rs : List (Record RData)) (ds : List Datum)
     → list_all (λ d. list_any (is_data_of d) (map without_ttl rs)) ds ≡ list_all (λ d. list_any (is_data_of d) rs) ds
@@ -305,7 +287,8 @@ met_once z k t (r ∷ rs) full h =
     each_met z k qs qs (under z k t (r ∷ rs) h) (under z k t (r ∷ rs) h)
     ∙ beside (λ q. list_any (λ d. is_data_of d q) (at z k)) (list_all (λ d. list_any (is_data_of d) qs) (at z k))
     (without_ttl r) (map without_ttl rs)
-    ∙ (λ i. all_without_ttl (at z k) (r ∷ rs) i && data_without_ttl (r ∷ rs) (at z k) i)
+    ∙ (λ i. list_all-map (λ q. list_any (λ d. is_data_of d q) (at z k)) without_ttl (r ∷ rs) i
+    && data_without_ttl (r ∷ rs) (at z k) i)
 
 values_met : (z : Zone) (named : NameValue) (s : SetValue) → IsSoundIn z named s → s.records ≢ []
     → prerequisites_fault z (map without_ttl s.records) ≡ unless (has_data_of_set z s) NXRRSet
@@ -330,16 +313,7 @@ fault_after : (f : Record RData → StepCode) (xs ys : List (Record RData)) → 
 fault_after f [] ys h = refl
 fault_after f (x ∷ xs) ys h = passed_after f (f x) xs ys h (fault_after f xs ys)
 
-folded_after : (z : Zone) (xs ys : List (Record RData)) → fold update z (xs ++ ys) ≡ fold update (fold update z xs) ys
-folded_after z [] ys = refl
-folded_after z (x ∷ xs) ys = folded_after (update z x) xs ys
-
 -- a zone without a key is one
-by_tie : (z : Zone) (k q : RrKey) (b : Bool) → eq_by_cmp key_cmp q k ≡ b
-    → (fin.get (less_key z k).sets q ≡ None) ⊎ (fin.get (less_key z k).sets q ≡ fin.get z.sets q)
-by_tie z k q true e = inl (get_with_set z.sets k [] q ∙ ap (λ b. cond b None (fin.get z.sets q)) e)
-by_tie z k q false e = inr (get_with_set z.sets k [] q ∙ ap (λ b. cond b None (fin.get z.sets q)) e)
-
 still_distinct : (o p : Option (List Datum)) → (o ≡ None) ⊎ (o ≡ p)
     → IsDistinct (on (λ (d : Datum). d.rdata) same_data) (unwrap_or p [])
     → IsDistinct (on (λ (d : Datum). d.rdata) same_data) (unwrap_or o [])
@@ -355,7 +329,7 @@ still_none o p (inr e) h = ap is_some e ∙ h
 
 found_less : (z : Zone) (k q : RrKey) → (fin.get (less_key z k).sets q ≡ None) ⊎
     (fin.get (less_key z k).sets q ≡ fin.get z.sets q)
-found_less z k q = by_tie z k q _ refl
+found_less z k q = cases_cond (eq_by_cmp key_cmp q k) None (fin.get z.sets q) _ (get_with_set z.sets k [] q)
 
 zone_less : (z : Zone) (k : RrKey) → IsZone z → IsZone (less_key z k)
 zone_less z k h = record {
@@ -386,14 +360,9 @@ swapped : (z : Zone) (named : NameValue) (current new : SetValue) → IsSoundIn 
     (less_key z (set_key current)) new
 swapped z named current new g h none met =
     let k = set_key current in
-    folded_after z (map (untimed_in classes.NONE) current.records) new.records
+    fold-append update z (map (untimed_in classes.NONE) current.records) new.records
     ∙ ap (λ w. fold update w new.records) (takes_out z named current g ∙ all_gone z current met)
     ∙ adds (less_key z k) named new (given_less z named new k h) (no_cname_less z k new.name none)
-
-decided : (z w : Zone) (rs : List (Record RData)) (code : ResponseCode) (b : Bool) → (b ≡ true → fold update z rs ≡ w)
-    → answer z rs (unless b code) ≡ cond b (NoError, w) (code, z)
-decided z w rs code true h = ap (λ v. (NoError, v)) (h refl)
-decided z w rs code false h = refl
 
 pub compare_and_swap_changes : (z : Zone) (current new : SetValue) (origin : NameValue)
     → MaySwapIn origin current new z → serve z (compare_and_swap current new origin) ≡ after_swap current new z

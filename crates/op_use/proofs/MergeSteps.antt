@@ -1,51 +1,35 @@
 -- lists of data after several records
 use Rattle.std.specs.Prelude.{Bool, true, false, not, List, [], ◌∷◌, ◌++◌, ◌≡◌, ◌||◌, cond, map, if◌then◌else◌}
 use Rattle.std.proofs.Common.{refl, sym, ap, ◌∙◌}
-use Rattle.std.specs.List.{filter, list_any, list_all, fold, AllByRecursion, IsDistinct}
-use Rattle.std.specs.Ordering.{on}
-use Rattle.std.specs.Cmp.{IsEquivalence}
+use Rattle.std.specs.List.{filter, list_any, list_all, fold}
 use Rattle.std.proofs.lemmas.Bool.{cond-true, cond-false, and_parts, or_parts}
 use Rattle.std.proofs.lemmas.List.{append_assoc, map-append}
 use Rattle.base_data.specs.declared.rdata.RData.{RData}
-use Rattle.base_data.specs.contracts.rdata.RDataEq.TheImpl.Laws.{laws-law as data_laws}
+use Rattle.rr.proofs.SetLaws.{Distinct, Far, laws, parts_of}
 use Rattle.rr.specs.declared.record.Record.{Record}
 use Rattle.base_data.specs.SameData.{same_data}
 use Rattle.op_use.specs.Zone.{Datum}
 use Rattle.op_use.specs.NamedChanges.{datum_of, is_data_of, others, renewed_datum}
 use Rattle.op_use.specs.Server.{added, removed}
 
-pub laws : IsEquivalence same_data
-laws = data_laws
-
--- no record has the data of r
-abbrev pub Far : List (Record RData) → Record RData → Type 0
-Far rs r = AllByRecursion (λ (q : Record RData). same_data r.rdata q.rdata ≡ false) rs
-
-abbrev pub Distinct : List (Record RData) → Type 0
-Distinct rs = IsDistinct (on (λ (r : Record RData). r.rdata) same_data) rs
-
-pub distinct_head : (r : Record RData) (rs : List (Record RData)) → Distinct (r ∷ rs) → Far rs r × Distinct rs
-unfolding IsDistinct
-distinct_head r rs h = h
-
 -- in the place of equal data
 abbrev pub rep : Record RData → Datum → Datum
 rep r d = if is_data_of d r then datum_of r else d
 
-renewed_far : (rs : List (Record RData)) (d : Datum) (r : Record RData) → is_data_of d r ≡ true → Far rs r
+renewed_far : (rs : List (Record RData)) (d : Datum) (r : Record RData) → is_data_of d r ≡ true → Far r rs
     → renewed_datum rs d ≡ d
 renewed_far [] d r e h = refl
 renewed_far (q ∷ rs) d r e h = cond-false (is_data_of d q) _ _ (laws.congr d.rdata r.rdata q.rdata e ∙ h.0)
     ∙ renewed_far rs d r e h.1
 
-renewed_rep : (rs : List (Record RData)) (d : Datum) (r : Record RData) (b : Bool) → is_data_of d r ≡ b → Far rs r
+renewed_rep : (rs : List (Record RData)) (d : Datum) (r : Record RData) (b : Bool) → is_data_of d r ≡ b → Far r rs
     → renewed_datum rs (rep r d) ≡ renewed_datum (r ∷ rs) d
 renewed_rep rs d r true e h = ap (renewed_datum rs) (cond-true (is_data_of d r) _ _ e)
     ∙ renewed_far rs (datum_of r) r (laws.refl r.rdata) h ∙ sym (cond-true (is_data_of d r) _ _ e)
 renewed_rep rs d r false e h = ap (renewed_datum rs) (cond-false (is_data_of d r) _ _ e)
     ∙ sym (cond-false (is_data_of d r) _ _ e)
 
-map_renewed_rep : (rs : List (Record RData)) (r : Record RData) (xs : List Datum) → Far rs r
+map_renewed_rep : (rs : List (Record RData)) (r : Record RData) (xs : List Datum) → Far r rs
     → map (renewed_datum rs) (map (rep r) xs) ≡ map (renewed_datum (r ∷ rs)) xs
 map_renewed_rep rs r [] h = refl
 map_renewed_rep rs r (d ∷ xs) h = λ i. renewed_rep rs d r _ refl h i ∷ map_renewed_rep rs r xs h i
@@ -79,14 +63,14 @@ any_push : (q r : Record RData) (xs : List Datum) → same_data r.rdata q.rdata 
 any_push q r [] h = ap (λ b. b || false) h
 any_push q r (d ∷ xs) h = ap (λ b. is_data_of d q || b) (any_push q r xs h)
 
-others_push : (rs : List (Record RData)) (r : Record RData) (xs : List Datum) → Far rs r
+others_push : (rs : List (Record RData)) (r : Record RData) (xs : List Datum) → Far r rs
     → others (xs ++ datum_of r ∷ []) rs ≡ others xs rs
 others_push [] r xs h = refl
 others_push (q ∷ rs) r xs h = λ i. cond (any_push q r xs h.0 i) (others_push rs r xs h.1 i)
     (datum_of q ∷ others_push rs r xs h.1 i)
 
 added_one : (rs : List (Record RData)) (r : Record RData) (xs : List Datum) (b : Bool)
-    → list_any (λ d. is_data_of d r) xs ≡ b → Far rs r
+    → list_any (λ d. is_data_of d r) xs ≡ b → Far r rs
     → map (renewed_datum rs) (cond b (map (rep r) xs) (xs ++ datum_of r ∷ []))
     ++ others (cond b (map (rep r) xs) (xs ++ datum_of r ∷ [])) rs
     ≡ map (renewed_datum (r ∷ rs)) xs ++ cond b (others xs rs) (datum_of r ∷ others xs rs)
@@ -105,7 +89,7 @@ pub all_added : (rs : List (Record RData)) (xs : List Datum) → Distinct rs
     → fold added xs rs ≡ map (renewed_datum rs) xs ++ others xs rs
 all_added [] xs h = sym (nothing xs)
 all_added (r ∷ rs) xs h =
-    let parts : Far rs r × Distinct rs = distinct_head r rs h in
+    let parts : Far r rs × Distinct rs = parts_of r rs h in
     all_added rs (added xs r) parts.1 ∙ added_one rs r xs _ refl parts.0
 
 filter_none : (xs : List Datum) → filter (λ d. not false) xs ≡ xs

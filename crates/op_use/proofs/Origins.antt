@@ -1,12 +1,12 @@
 -- Where the records of a changed set come from.
 use Rattle.base_data.specs.declared.rdata.RData.{RData}
 use Rattle.op_use.proofs.AppliedData.{joined_is}
-use Rattle.rr.specs.SetUpdates.{has_data_of_one, without}
-use Rattle.rr.specs.SetChanges.{has_data_of, joined, replaced}
+use Rattle.rr.specs.SetChanges.{has_data_of, joined, replaced, without}
 use Rattle.rr.specs.declared.record.Record.{Record}
 use Rattle.std.proofs.Common.{arith, inl, inr, subst, sym, ◌⊎◌}
+use Rattle.std.proofs.lemmas.Bool.{cond_both}
 use Rattle.std.specs.List.{IsAmong, list_any}
-use Rattle.std.specs.Prelude.{Bool, List, [], cond, false, if◌then◌else◌, length, not, slice_index_or, suc, true, zero}
+use Rattle.std.specs.Prelude.{Bool, List, [], false, if◌then◌else◌, length, not, slice_index_or, suc, true, zero}
 use Rattle.std.specs.Prelude.{ℕ, ◌++◌, ◌<◌, ◌∷◌, ◌≡◌}
 
 pub later_among : {X : Type 0} (x y : X) (xs : List X) → IsAmong xs y → IsAmong (x ∷ xs) y
@@ -53,23 +53,15 @@ from_last r [] = λ v h. inr h
 from_last r (x ∷ xs) = λ v h. step_from r x xs (xs ++ r ∷ []) v false (from_last r xs)
     (among_parts x v (xs ++ r ∷ []) h)
 
-pub from_if : (r : Record RData) (xs ys zs : List (Record RData)) (b : Bool) → From r xs ys → From r xs zs
-    → From r xs (if b then ys else zs)
-from_if r xs ys zs true f g = f
-from_if r xs ys zs false f g = g
-
 pub from_joined : (r : Record RData) (xs : List (Record RData)) → From r xs (joined r xs)
 from_joined r xs = subst (λ ys. From r xs ys) (sym (joined_is r xs))
-    (from_if r xs _ _ (list_any (has_data_of r) xs) (from_replaced r xs) (from_last r xs))
+    (cond_both (list_any (has_data_of r) xs) _ _ (From r xs) (λ _. from_replaced r xs) (λ _. from_last r xs))
 
-from_cond : (r x : Record RData) (xs ys : List (Record RData)) (b : Bool) → From r xs ys
-    → From r (x ∷ xs) (cond b (x ∷ ys) ys)
-from_cond r x xs ys true more = λ v h. step_from r x xs ys v false more (among_parts x v ys h)
-from_cond r x xs ys false more = λ v h. from_more r x xs v (more v h)
-
-pub from_without : (r : Record RData) (rs xs : List (Record RData)) → From r xs (without rs xs)
-from_without r rs [] = λ v h. inl h
-from_without r rs (x ∷ xs) = from_cond r x xs (without rs xs) (not (has_data_of_one rs x)) (from_without r rs xs)
+pub from_without : (r : Record RData) (xs : List (Record RData)) → From r xs (without r xs)
+from_without r [] = λ v h. inl h
+from_without r (x ∷ xs) = cond_both (not (has_data_of r x)) (x ∷ without r xs) (without r xs) (From r (x ∷ xs))
+    (λ _ v h. step_from r x xs (without r xs) v false (from_without r xs) (among_parts x v (without r xs) h))
+    (λ _ v h. from_more r x xs v (from_without r xs v h))
 
 pub from_one : (r : Record RData) (xs : List (Record RData)) → From r xs (r ∷ [])
 from_one r xs = λ v h. inr h

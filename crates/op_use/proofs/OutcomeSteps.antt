@@ -25,7 +25,7 @@ use Rattle.op_use.specs.Outcome.{SettlesAt, UpdatesOwner, UpdatesTo, change_at, 
 use Rattle.op_use.specs.Zone.{is_owned}
 use Rattle.op_use.specs.declared.apply.outcome.Outcome.{Outcome}
 use Rattle.rr.specs.RecordSet.{SetValue}
-use Rattle.rr.specs.SetUpdates.{last_ttl}
+use Rattle.rr.specs.SetChanges.{last_ttl}
 use Rattle.rr.specs.declared.record.Record.{Record}
 use Rattle.std.proofs.Common.{ap, arith, drop, get_or, inl, length, length-drop, inr, refl, subst, sym, take, ◌∙◌, ◌⊎◌}
 use Rattle.std.proofs.Math.Bool.{and-false, and_comm, or-false}
@@ -170,11 +170,11 @@ module _ (owner : NameValue) (z part now : HeldZone) (rs : List (Record RData)) 
   -- what is noted to go: sets of the owner that were there, of which none stands now
   gone_at : (q : RrKey) → has_key q mid.gone.items ≡ (has_key q first.gone.items
       || (not (is_some (tree.get key_cmp stood_now q)) && (is_owned owner q && is_some (tree.get key_cmp z.sets q))))
-  gone_at q = ap (has_key q) gone ∙ list_any-append (λ k. eq_by_cmp key_cmp k q) first.gone.items _
+  gone_at q = ap (has_key q) gone ∙ list_any-append (eq_by_cmp key_cmp q) first.gone.items _
       ∙ ap (λ b. has_key q first.gone.items || b)
-      (any-filter_same (λ k. eq_by_cmp key_cmp k q) (λ k. not (is_some (tree.get key_cmp stood_now k)))
+      (any-filter_same (eq_by_cmp key_cmp q) (λ k. not (is_some (tree.get key_cmp stood_now k)))
       (not (is_some (tree.get key_cmp stood_now q)))
-      (λ k e. ap (λ x. not (is_some (tree.get key_cmp stood_now x))) (same_key k q e)) ks
+      (λ k e. ap (λ x. not (is_some (tree.get key_cmp stood_now x))) (sym (same_key q k e))) ks
       ∙ ap (λ b. not (is_some (tree.get key_cmp stood_now q)) && b) (keys q))
 
   mid_at : (q : RrKey) → is_owned owner q ≡ true

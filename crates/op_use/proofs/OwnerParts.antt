@@ -1,5 +1,5 @@
 -- Updates look at the sets of the owners that they name alone, and change no others.
-use Rattle.base.proofs.names.KeyLemmas.{key_cmp-exact, key_cmp-total}
+use Rattle.base.proofs.names.KeyLemmas.{key_cmp-total}
 use Rattle.base.specs.names.Labels.{NameValue}
 use Rattle.base.specs.names.NameOrder.{exact, lowered, same_lower, same_name}
 use Rattle.base.specs.names.NameOrderLaws.{same_by-equiv, same_lower-exact}
@@ -8,7 +8,7 @@ use Rattle.base.specs.declared.record_type.RecordType.TheVariants as types
 use Rattle.base.specs.declared.record_type.RecordType.{RecordType}
 use Rattle.base.specs.declared.rr_key.RrKey.{RrKey}
 use Rattle.base_data.specs.declared.rdata.RData.{RData}
-use Rattle.op_use.proofs.ZoneSteps.{get_with_set, kept, same_key, tied}
+use Rattle.op_use.proofs.ZoneSteps.{get_with_set, kept, retained, same_key, tied}
 use Rattle.op_use.specs.AppliedRecords.{after_by, after_update, records_after, with_record}
 use Rattle.op_use.specs.Applying.{names_owner}
 use Rattle.op_use.specs.MapUpdates.{names_set}
@@ -17,11 +17,11 @@ use Rattle.op_use.specs.Server.{is_needed, is_under, removed, update, update_by,
 use Rattle.op_use.specs.Zone.{Datum, Zone, at, has_type_at, is_guarded, is_owned, put}
 use Rattle.rr.specs.Record.{record_key, type_of_record}
 use Rattle.rr.specs.RecordSet.{is_ns, is_soa}
-use Rattle.rr.specs.SetUpdates.{without}
+use Rattle.rr.specs.SetChanges.{without}
 use Rattle.rr.specs.declared.record.Record.{Record}
 use Rattle.std.proofs.Common.{ap, refl, subst, sym, ◌∙◌}
 use Rattle.std.proofs.Math.Bool.{and-false, or-true}
-use Rattle.std.proofs.lemmas.Bool.{false_from_ne_true, or_parts, true≢false}
+use Rattle.std.proofs.lemmas.Bool.{and_parts, cond_both, false_from_ne_true, or_parts, true≢false}
 use Rattle.std.specs.FinMap as fin
 use Rattle.std.specs.Cmp.{eq_by_cmp_equiv}
 use Rattle.std.specs.List.{filter, fold, list_any}
@@ -109,12 +109,8 @@ module _ (p : RrKey → Bool) (r : Record RData) (all : (q : RrKey) → is_owned
   same_types z y test h =
       both_ways _ _ (has_one p (λ k. is_owned r.name k && test k.record_type) z y h less)
       (has_one p (λ k. is_owned r.name k && test k.record_type) y z (turned_over p z y h) less) where
-        left : (a b : Bool) → (a && b) ≡ true → a ≡ true
-        left true b e = refl
-        left false b e = e
-
         less : (q : RrKey) → (is_owned r.name q && test q.record_type) ≡ true → p q ≡ true
-        less q e = all q (left (is_owned r.name q) (test q.record_type) e)
+        less q e = all q (and_parts (is_owned r.name q) (test q.record_type) e).0
 
   at_key : (z y : Zone) (t : RecordType) → Agrees p z y
       → fin.get z.sets (key_of r.name t) ≡ fin.get y.sets (key_of r.name t)
@@ -152,11 +148,9 @@ module _ (p : RrKey → Bool) (r : Record RData) (all : (q : RrKey) → is_owned
   left_both z y h = record {
     origin = h.origin;
     class = h.class;
-    sets = λ q e. fin.get-retain_keys z.sets (λ k. not (goes_with z r k)) q
-        (λ x t. ap (λ k. not (goes_with z r k)) (sym (key_cmp-exact q x t)))
+    sets = λ q e. retained z.sets (λ k. not (goes_with z r k)) q
         ∙ (λ i. cond (not (same_goes z y h q i)) (h.sets q e i) None)
-        ∙ sym (fin.get-retain_keys y.sets (λ k. not (goes_with y r k)) q
-        (λ x t. ap (λ k. not (goes_with y r k)) (sym (key_cmp-exact q x t))));
+        ∙ sym (retained y.sets (λ k. not (goes_with y r k)) q);
   }
 
   either : (b c : Bool) (z y z2 y2 : Zone) → b ≡ c → Agrees p z y → Agrees p z2 y2
@@ -180,7 +174,7 @@ module _ (p : RrKey → Bool) (r : Record RData) (all : (q : RrKey) → is_owned
       → after_by how z r q xs ≡ after_by how y r q xs
   after_use OfZone z y q xs h = λ i. if not (same_kept_out z y h i) && is_under r q then with_record r xs else xs
   after_use OfAny z y q xs h = λ i. if same_goes z y h q i then [] else xs
-  after_use OfNone z y q xs h = λ i. if not (same_needed z y h i) && is_under r q then without (r ∷ []) xs else xs
+  after_use OfNone z y q xs h = λ i. if not (same_needed z y h i) && is_under r q then without r xs else xs
   after_use OfNothing z y q xs h = refl
 
   pub after_same : (z y : Zone) (q : RrKey) (xs : List (Record RData)) → Agrees p z y
@@ -205,24 +199,18 @@ module _ (r : Record RData) (q : RrKey) (free : is_owned r.name q ≡ false) whe
   after_use_there OfZone z xs = ap (λ b. if b then with_record r xs else xs)
       (not_both (not (is_kept_out z r)) (is_under r q) (not_under r q free))
   after_use_there OfAny z xs = ap (λ b. if b then [] else xs) (not_gone z)
-  after_use_there OfNone z xs = ap (λ b. if b then without (r ∷ []) xs else xs)
+  after_use_there OfNone z xs = ap (λ b. if b then without r xs else xs)
       (not_both (not (is_needed z r)) (is_under r q) (not_under r q free))
   after_use_there OfNothing z xs = refl
 
 -- origin and class stay
-same_place_by : (how : Use) (z : Zone) (r : Record RData)
-    → ((update_by how z r).origin ≡ z.origin) × ((update_by how z r).class ≡ z.class)
-same_place_by OfZone z r = by (is_kept_out z r) where
-  by : (b : Bool) → ((if b then z else put z (record_key r) (with_datum r (at z (record_key r)))).origin ≡ z.origin)
-      × ((if b then z else put z (record_key r) (with_datum r (at z (record_key r)))).class ≡ z.class)
-  by true = (refl, refl)
-  by false = (refl, refl)
+abbrev AtPlace : Zone → Zone → Type 0
+AtPlace z y = (y.origin ≡ z.origin) × (y.class ≡ z.class)
+
+same_place_by : (how : Use) (z : Zone) (r : Record RData) → AtPlace z (update_by how z r)
+same_place_by OfZone z r = cond_both (is_kept_out z r) z _ (AtPlace z) (λ _. (refl, refl)) (λ _. (refl, refl))
 same_place_by OfAny z r = (refl, refl)
-same_place_by OfNone z r = by (is_needed z r) where
-  by : (b : Bool) → ((if b then z else put z (record_key r) (removed (at z (record_key r)) r)).origin ≡ z.origin)
-      × ((if b then z else put z (record_key r) (removed (at z (record_key r)) r)).class ≡ z.class)
-  by true = (refl, refl)
-  by false = (refl, refl)
+same_place_by OfNone z r = cond_both (is_needed z r) z _ (AtPlace z) (λ _. (refl, refl)) (λ _. (refl, refl))
 same_place_by OfNothing z r = (refl, refl)
 
 -- ---- updates one after the other
@@ -306,11 +294,6 @@ module _ (q : RrKey) where
     other : (k : RrKey) → beside k ≡ true → is_owned r.name k ≡ false
     other k h = sym (ap (same_lower (lowered r.name)) (same_lower-exact q.name k.name h)) ∙ free
 
-    one_of_two : (b : Bool) (z x y : Zone) → Agrees beside z x → Agrees beside z y
-        → Agrees beside z (if b then x else y)
-    one_of_two true z x y h g = h
-    one_of_two false z x y h g = g
-
     same : (z : Zone) → Agrees beside z z
     same z = record { origin = refl; class = refl; sets = λ k h. refl }
 
@@ -323,15 +306,14 @@ module _ (q : RrKey) where
     }
 
     agrees_beside : (how : Use) (z : Zone) → Agrees beside z (update_by how z r)
-    agrees_beside OfZone z = one_of_two (is_kept_out z r) z z _ (same z) (put_beside z _)
+    agrees_beside OfZone z = cond_both (is_kept_out z r) z _ (Agrees beside z) (λ _. same z) (λ _. put_beside z _)
     agrees_beside OfAny z = record {
       origin = refl;
       class = refl;
-      sets = λ k h. sym (fin.get-retain_keys z.sets (λ k. not (goes_with z r k)) k
-          (λ x t. ap (λ k. not (goes_with z r k)) (sym (key_cmp-exact k x t)))
+      sets = λ k h. sym (retained z.sets (λ k. not (goes_with z r k)) k
           ∙ ap (λ b. cond (not b) (fin.get z.sets k) None) (not_gone r k (other k h) z));
     }
-    agrees_beside OfNone z = one_of_two (is_needed z r) z z _ (same z) (put_beside z _)
+    agrees_beside OfNone z = cond_both (is_needed z r) z _ (Agrees beside z) (λ _. same z) (λ _. put_beside z _)
     agrees_beside OfNothing z = same z
 
   of_owner_next : (r : Record RData) (rs : List (Record RData)) (z : Zone) (xs : List (Record RData))

@@ -1,11 +1,10 @@
 -- Updates in the order of their owners: those of the first owner stand in front.
 use Rattle.base.specs.names.Labels.{NameValue}
 use Rattle.base.specs.names.NameOrder.{folded, lowered, name_cmp, same_lower, same_name}
-use Rattle.base.specs.names.NameOrderLaws.{cmp_by-total, same_by-equiv, same_by-tie, same_lower-exact}
+use Rattle.base.specs.names.NameOrderLaws.{cmp_by-total, same_by-tie, same_lower-exact}
 use Rattle.base.specs.declared.rr_key.RrKey.{RrKey}
 use Rattle.base_data.specs.declared.rdata.RData.{RData}
 use Rattle.op_use.proofs.OwnerParts.{own_updates}
-use Rattle.op_use.proofs.ZoneSteps.{equal_of}
 use Rattle.op_use.specs.Outcome.{IsSortedByOwner, each}
 use Rattle.op_use.specs.Zone.{is_owned}
 use Rattle.rr.specs.declared.record.Record.{Record}
@@ -14,7 +13,7 @@ use Rattle.std.proofs.lemmas.Bool.{cond-false, cond-true, or_parts, true≢false
 use Rattle.std.proofs.lemmas.Grind.{get_or_tail}
 use Rattle.std.proofs.lemmas.List.Sorted.{list_any-IsPermutation}
 use Rattle.std.specs.Borrow.{Bor}
-use Rattle.std.specs.Cmp.{alike_right}
+use Rattle.std.specs.Cmp.{Equal-is, alike_right, tied_itself}
 use Rattle.std.specs.List.Sorted.{IsPermutation, IsStableBy, ties}
 use Rattle.std.specs.List.{filter, list_any, prefix_len}
 use Rattle.std.specs.Ordering.{is_eq, is_lt, ordering_reverse}
@@ -91,7 +90,7 @@ module _ (n : NameValue) where
   next : (a : Update) (rs : List Update) → of_owner a ≡ true → Ascends (a ∷ rs) → Starts rs
   next a [] e up = tt
   next a (b ∷ rs) e up = ap is_lt (sym (alike_right (cmp_by-total folded) a.now.name n b.now.name
-      (equal_of _ (sym (same_by-tie folded a.now.name n) ∙ e)))) ∙ up.0
+      ((Equal-is _).0 (sym (same_by-tie folded a.now.name n) ∙ e)))) ∙ up.0
 
   after : (r : Update) → is_lt (name_cmp r.now.name n) ≡ false → of_owner r ≡ false → name_cmp n r.now.name ≡ Less
   after r from e = step (name_cmp r.now.name n) refl where
@@ -102,7 +101,7 @@ module _ (n : NameValue) where
 
   -- no name is below itself
   pub irreflexive : is_lt (name_cmp n n) ≡ false
-  irreflexive = ap is_lt (equal_of _ (sym (same_by-tie folded n n) ∙ (same_by-equiv folded).refl n))
+  irreflexive = ap is_lt (tied_itself (cmp_by-total folded) n)
 
   -- they stand in front
   abbrev pub IsRun : List Update → ℕ → Type 0

@@ -2,18 +2,16 @@
 use Rattle.base.specs.RrKey.{key_cmp}
 use Rattle.base.specs.declared.dns_class.DNSClass.{DNSClass}
 use Rattle.base.specs.declared.rr_key.RrKey.{RrKey}
-use Rattle.base_data.specs.SameData.{same_data}
 use Rattle.base_data.specs.declared.rdata.RData.{RData}
 use Rattle.op_use.proofs.KeySets.{each_key}
 use Rattle.op_use.specs.Applying.{HasSameSets, IsZoneMap, IsZoneSet}
 use Rattle.op_use.specs.RaisedSerial.{IsRaised, IsRaisedTo, raised_data, raised_records, raised_set}
+use Rattle.rr.proofs.SetTidy.{one_is_tidy}
 use Rattle.rr.specs.RecordSet.{SetValue}
 use Rattle.rr.specs.declared.record.Record.{Record}
-use Rattle.std.proofs.Common.{Bool, List, None, Option, Some, [], ap, length, refl, subst, sym, ℕ, ◌∙◌, ◌∷◌, ◌≡◌}
+use Rattle.std.proofs.Common.{List, None, Option, Some, [], ap, length, refl, subst, sym, ℕ, ◌∙◌, ◌∷◌, ◌≡◌}
 use Rattle.std.specs.BTreeMap.{BTreeMap, Updates, get}
-use Rattle.std.specs.List.{IsDistinct}
 use Rattle.std.specs.Option.{option_and_then}
-use Rattle.std.specs.Ordering.{on}
 use Rattle.std.specs.Prelude.{MatchOption, option_map, slice_index_or, slice_set}
 
 -- ---- records
@@ -57,11 +55,6 @@ one_left (r ∷ []) rs n is = go (raised_data r.rdata) is where
 abbrev pub with_records : SetValue → List (Record RData) → SetValue
 with_records s rs = record s { records = rs }
 
--- no two of one record have equal data
-alone : {X : Type 0} (e : X → X → Bool) (x : X) → IsDistinct e (x ∷ [])
-unfolding IsDistinct
-alone e x = (tt, tt)
-
 -- a zone's set with one record, and all else the same, is a zone's set
 pub still_set : (class : DNSClass) (k : RrKey) (s : SetValue) (r : Record RData) → IsZoneSet class k s
     → IsZoneSet class k (with_records s (r ∷ []))
@@ -69,7 +62,7 @@ still_set class k s r is = record {
   own_key = is.own_key;
   own_class = is.own_class;
   filled = λ same. absurd cc;
-  distinct = alone (on (λ (r : Record RData). r.rdata) same_data) r;
+  distinct = (one_is_tidy r).distinct;
 }
 
 -- ---- maps

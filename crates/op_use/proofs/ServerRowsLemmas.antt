@@ -1,34 +1,28 @@
 -- The rows of what a server answers are what its definition computes.
 use Rattle.op_use.specs.UpdateMessage.{empty_record}
-use Rattle.op_use.proofs.Deleted.{deleted_is}
+use Rattle.op_use.proofs.Deleted.{deleted_is, turned}
+use Rattle.op_use.proofs.MapZones.{no_entries}
 use Rattle.op.specs.declared.response_code.ResponseCode.TheVariants.{NoError}
 use Rattle.base.specs.declared.record_type.RecordType.TheVariants as types
 use Rattle.base.specs.declared.dns_class.DNSClass.TheVariants as classes
-use Rattle.std.specs.Prelude.{Bool, cond, false, List, [], ◌∷◌, ◌≡◌, length, not, None, Option, Some, true}
-use Rattle.std.proofs.Common.{refl, sym, ap, ◌∙◌, arith}
+use Rattle.std.specs.Prelude.{Bool, cond, false, List, ◌≡◌, not, None, Option, Some, true}
+use Rattle.std.proofs.Common.{refl, sym, ap, ◌∙◌}
 use Rattle.std.specs.FinMap as fin
 use Rattle.std.specs.Ordering.{eq_by_cmp}
 use Rattle.std.specs.FinMap.{FinMap}
 use Rattle.base.specs.RrKey.{key_cmp}
 use Rattle.base.specs.declared.rr_key.RrKey.{RrKey}
-use Rattle.base.proofs.names.KeyLemmas.{key_cmp-exact, key_cmp-total}
+use Rattle.base.proofs.names.KeyLemmas.{key_cmp-total}
 use Rattle.op_use.specs.ServerRows.{AddRows, BuilderRows, DeleteRecordRows, DeleteSetRows, OrderRows, PrerequisiteRows}
 use Rattle.op_use.specs.ServerRows.{PrescanRows, ZoneSectionRows, example, origin_sets, zone_with}
 use Rattle.op_use.specs.Zone.{Datum}
-use Rattle.op_use.proofs.ZoneSteps.{same_key, same_sets, twice}
+use Rattle.op_use.proofs.ZoneSteps.{retained, same_key, same_sets, twice}
 
 abbrev Sets : Type 0
 Sets = FinMap key_cmp (List Datum)
 
 abbrev no_sets : Sets
 no_sets = fin.empty
-
-no_length : {A : Type 0} (es : List A) → length es ≡ 0 → es ≡ []
-no_length [] e = refl
-no_length (x ∷ es) e = absurd (omega arith)
-
-entries-empty : fin.entries no_sets ≡ []
-entries-empty = no_length _ (sym (fin.len-entries no_sets) ∙ fin.len-empty key_cmp (List Datum))
 
 entries-insert : (m : Sets) (k : RrKey) (xs : List Datum)
     → fin.entries (fin.insert m k xs) ≡ fin.put key_cmp k xs (fin.entries m)
@@ -46,16 +40,9 @@ insert_again m k xs ys = same_sets _ _ (λ q. get-insert (fin.insert m k xs) k y
     ∙ ap (cond (eq_by_cmp key_cmp q k) (Some ys)) (get-insert m k xs q)
     ∙ twice (eq_by_cmp key_cmp q k) (Some xs) (Some ys) (fin.get m q) ∙ sym (get-insert m k ys q))
 
-retained : (m : Sets) (p : RrKey → Bool) (q : RrKey) → fin.get (fin.retain_keys m p) q ≡ cond (p q) (fin.get m q) None
-retained m p q = fin.get-retain_keys m p q (λ x tie. ap p (sym (key_cmp-exact q x tie)))
-
-turned : (b : Bool) (x y : Option (List Datum)) → cond b x y ≡ cond (not b) y x
-turned true x y = refl
-turned false x y = refl
-
 remove_is_retain : (m : Sets) (k : RrKey) → fin.remove m k ≡ fin.retain_keys m (λ q. not (eq_by_cmp key_cmp q k))
 remove_is_retain m k = same_sets _ _ (λ q. fin.get-remove key_cmp-total m k q
-    ∙ turned (eq_by_cmp key_cmp q k) None (fin.get m q) ∙ sym (retained m (λ x. not (eq_by_cmp key_cmp x k)) q))
+    ∙ sym (turned (eq_by_cmp key_cmp q k) (fin.get m q) None) ∙ sym (retained m (λ x. not (eq_by_cmp key_cmp x k)) q))
 
 none : (b : Bool) → cond {A = Option (List Datum)} b None None ≡ None
 none true = refl
@@ -87,7 +74,7 @@ retain_insert m j xs p = same_sets _ _ (λ q. retained (fin.insert m j xs) p q
 ruleset zones = (
   get-empty,
   get-insert,
-  entries-empty,
+  no_entries,
   entries-insert,
   insert_again,
   remove_is_retain,

@@ -15,7 +15,7 @@ use Rattle.op_use.specs.Server.{OfAny, OfNone, OfNothing, OfZone, is_any, is_kep
 use Rattle.op_use.specs.Zone.{is_guarded, is_owned}
 use Rattle.rr.specs.Record.{record_key, type_of_record}
 use Rattle.rr.specs.RecordSet.{SetValue, is_soa}
-use Rattle.rr.specs.SetUpdates.{last_ttl, without}
+use Rattle.rr.specs.SetChanges.{last_ttl, without}
 use Rattle.rr.specs.declared.record.Record.{Record}
 use Rattle.std.proofs.Common.{ap, inl, inr, subst, sym, ◌∙◌, ◌⊎◌}
 use Rattle.std.proofs.lemmas.Bool.{cond-false, cond-true}
@@ -44,7 +44,7 @@ module _ (origin : NameValue) (class : DNSClass) (m : BTreeMap RrKey SetValue) (
   adds u q = ap (λ how. after_by how (zone_of_map origin class m) r q (records_at m q)) u
 
   pub takes : use_of class r.dns_class ≡ OfNone
-      → Changes (without (r ∷ [])) (not (is_needed (zone_of_map origin class m) r))
+      → Changes (without r) (not (is_needed (zone_of_map origin class m) r))
   takes u q = ap (λ how. after_by how (zone_of_map origin class m) r q (records_at m q)) u
 
   pub deletes : use_of class r.dns_class ≡ OfAny → is_any (type_of_record r) ≡ false

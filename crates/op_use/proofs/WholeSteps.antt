@@ -18,8 +18,7 @@ use Rattle.op_use.specs.NamedChanges.{datum_of, is_data_of}
 use Rattle.op_use.specs.Server.{StepCode, Sections, answer, collected, fault, is_met, is_of_zone, is_same_key, use_of}
 use Rattle.rr.specs.Record.{record_key}
 use Rattle.rr.specs.RecordSet.{SetValue}
-use Rattle.rr.specs.SetChanges.{has_data_of}
-use Rattle.rr.specs.SetUpdates.{last_ttl}
+use Rattle.rr.specs.SetChanges.{has_data_of, last_ttl}
 use Rattle.rr.specs.declared.record.Record.{Record}
 use Rattle.std.proofs.Common.{ap, inl, inr, refl, subst, sym, ◌∙◌, ◌⊎◌}
 use Rattle.std.proofs.lemmas.Bool.{cond-false, cond-true}

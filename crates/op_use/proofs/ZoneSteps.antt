@@ -1,10 +1,9 @@
 -- sets put into zones
 use Rattle.std.specs.Prelude.{Bool, true, false, List, [], ◌∷◌, ◌≡◌, ◌≢◌, cond, Option, Some, None, unwrap_or}
 use Rattle.std.proofs.Common.{refl, sym, ap, ◌∙◌}
-use Rattle.std.specs.Ordering.{eq_by_cmp, is_eq}
+use Rattle.std.proofs.lemmas.Map.Views.{tells_apart}
+use Rattle.std.specs.Ordering.{eq_by_cmp}
 use Rattle.std.specs.Cmp.{eq_by_cmp_equiv}
-use Rattle.std.specs.declared.cmp.Ordering.{Ordering}
-use Rattle.std.specs.declared.cmp.Ordering.TheVariants.{Less, Equal, Greater}
 use Rattle.std.specs.FinMap as fin
 use Rattle.std.specs.FinMap.{FinMap}
 use Rattle.base.specs.declared.rr_key.RrKey.{RrKey}
@@ -21,6 +20,10 @@ pub get_with_set : (m : FinMap key_cmp (List Datum)) (k : RrKey) (xs : List Datu
     → fin.get (with_set m k xs) q ≡ cond (eq_by_cmp key_cmp q k) (kept xs) (fin.get m q)
 get_with_set m k [] q = fin.get-remove key_cmp-total m k q
 get_with_set m k (x ∷ xs) q = fin.get-insert key_cmp-total m k (x ∷ xs) q
+
+pub retained : (m : FinMap key_cmp (List Datum)) (p : RrKey → Bool) (q : RrKey)
+    → fin.get (fin.retain_keys m p) q ≡ cond (p q) (fin.get m q) None
+retained m p q = fin.get-retain_keys m p q (λ x tie. ap p (sym (key_cmp-exact q x tie)))
 
 pub same_sets : (m n : FinMap key_cmp (List Datum)) → ((q : RrKey) → fin.get m q ≡ fin.get n q) → m ≡ n
 same_sets = fin.same_map key_cmp-total key_cmp-exact
@@ -57,13 +60,8 @@ put_put z k xs ys = ap (λ (m : FinMap key_cmp (List Datum)). record z { sets = 
     ∙ ap (cond (eq_by_cmp key_cmp q k) (kept ys)) (get_with_set z.sets k xs q)
     ∙ twice (eq_by_cmp key_cmp q k) (kept xs) (kept ys) (fin.get z.sets q) ∙ sym (get_with_set z.sets k ys q)))
 
-pub equal_of : (o : Ordering) → is_eq o ≡ true → o ≡ Equal
-equal_of Less h = cc
-equal_of Equal h = refl
-equal_of Greater h = cc
-
 pub same_key : (q k : RrKey) → eq_by_cmp key_cmp q k ≡ true → q ≡ k
-same_key q k h = key_cmp-exact q k (equal_of _ h)
+same_key = tells_apart key_cmp-exact
 
 pub kept_found : (o : Option (List Datum)) → o ≢ Some [] → kept (unwrap_or o []) ≡ o
 kept_found None h = refl

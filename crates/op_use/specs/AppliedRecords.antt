@@ -4,8 +4,7 @@ use Rattle.base_data.specs.declared.rdata.RData.{RData}
 use Rattle.op_use.specs.Server.{StepCode, OfAny, OfNone, OfNothing, OfZone, Use, alone_or, is_kept_out, is_needed}
 use Rattle.op_use.specs.Server.{update, use_of, goes_with, is_under}
 use Rattle.op_use.specs.Zone.{Zone}
-use Rattle.rr.specs.SetChanges.{joined}
-use Rattle.rr.specs.SetUpdates.{without}
+use Rattle.rr.specs.SetChanges.{joined, without}
 use Rattle.rr.specs.declared.record.Record.{Record}
 use Rattle.std.specs.Prelude.{List, None, Some, [], if◌then◌else◌, not, ◌&&◌, ◌∷◌}
 
@@ -17,7 +16,7 @@ with_record r xs = alone_or r r (joined r xs)
 abbrev pub after_by : Use → Zone → Record RData → RrKey → List (Record RData) → List (Record RData)
 after_by OfZone z r k xs = if not (is_kept_out z r) && is_under r k then with_record r xs else xs
 after_by OfAny z r k xs = if goes_with z r k then [] else xs
-after_by OfNone z r k xs = if not (is_needed z r) && is_under r k then without (r ∷ []) xs else xs
+after_by OfNone z r k xs = if not (is_needed z r) && is_under r k then without r xs else xs
 after_by OfNothing z r k xs = xs
 
 -- the records under a key after one update (RFC 2136, 3.4.2)

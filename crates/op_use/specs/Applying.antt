@@ -15,7 +15,7 @@ use Rattle.rr.specs.Record.{type_of_record}
 use Rattle.op_use.specs.SoundSet.{is_supported_type}
 use Rattle.op_use.specs.Zone.{Datum, Zone, is_owned}
 use Rattle.rr.specs.RecordSet.{SetValue}
-use Rattle.rr.specs.SetUpdates.{last_ttl}
+use Rattle.rr.specs.SetChanges.{last_ttl}
 use Rattle.rr.specs.declared.record.Record.{Record}
 use Rattle.std.specs.BTreeMap as tree
 use Rattle.std.specs.BTreeMap.{BTreeMap}

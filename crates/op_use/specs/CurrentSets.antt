@@ -7,8 +7,7 @@ use Rattle.base.specs.declared.dns_class.DNSClass.{DNSClass}
 use Rattle.base_data.specs.declared.rdata.RData.{RData}
 use Rattle.rr.specs.Record.{type_of_record}
 use Rattle.rr.specs.RecordSet.{SetValue}
-use Rattle.rr.specs.SetChanges.{joined}
-use Rattle.rr.specs.SetUpdates.{with_records}
+use Rattle.rr.specs.SetChanges.{joined, with_records}
 use Rattle.rr.specs.declared.record.Record.{Record}
 use Rattle.std.specs.Prelude.{None, Option, Some, []}
 

@@ -13,7 +13,7 @@ use Rattle.op_use.specs.Zone.{Zone}
 use Rattle.op_use.specs.declared.apply.rules.Use.TheVariants as uses
 use Rattle.op_use.specs.declared.apply.rules.Use.{Use}
 use Rattle.rr.specs.RecordSet.{SetValue}
-use Rattle.rr.specs.SetUpdates.{last_ttl}
+use Rattle.rr.specs.SetChanges.{last_ttl}
 use Rattle.rr.specs.declared.record.Record.{Record}
 use Rattle.std.specs.BTreeMap as tree
 use Rattle.std.specs.BTreeMap.{BTreeMap}
@@ -74,7 +74,7 @@ LacksOwner owner = HasSets (λ z sets. (q : RrKey) → tree.get key_cmp sets q
 
 -- whether a key is among others
 abbrev pub has_key : RrKey → List RrKey → Bool
-has_key q ks = list_any (λ k. eq_by_cmp key_cmp k q) ks
+has_key q ks = list_any (eq_by_cmp key_cmp q) ks
 
 -- the new map is the old one without the sets under these keys
 abbrev pub LacksKeys : List RrKey → BTreeMap RrKey SetValue → BTreeMap RrKey SetValue → Type 0

@@ -2,10 +2,8 @@
 use Rattle.base_data.specs.SameData.{same_data}
 use Rattle.base_data.specs.declared.rdata.RData.{RData}
 use Rattle.rr.proofs.SetLaws.{Distinct, Far, apart, laws, parts_of}
-use Rattle.rr.proofs.SetSteps.{replaced_none}
-use Rattle.rr.proofs.WithoutSteps.{without_none}
-use Rattle.rr.specs.SetChanges.{first_of, has_data_of, joined, replaced}
-use Rattle.rr.specs.SetUpdates.{has_data_of_one, without}
+use Rattle.rr.proofs.SetSteps.{replaced_none, without_none}
+use Rattle.rr.specs.SetChanges.{first_of, has_data_of, joined, replaced, without}
 use Rattle.rr.specs.declared.record.Record.{Record}
 use Rattle.std.proofs.Common.{ap, drop, refl, sym, take, ◌∙◌}
 use Rattle.std.proofs.lemmas.Bool.{cond-false, cond-true, or_parts}
@@ -13,7 +11,7 @@ use Rattle.std.proofs.lemmas.List.{append-nil}
 use Rattle.std.proofs.lemmas.List.Elements.{filter-append}
 use Rattle.std.proofs.lemmas.List.Folds.{list_any-append}
 use Rattle.std.proofs.lemmas.Option.{same_Some}
-use Rattle.std.proofs.Math.Bool.{or-false, or-true}
+use Rattle.std.proofs.Math.Bool.{or-true}
 use Rattle.std.specs.List.{list_any, slice_get}
 use Rattle.std.specs.Prelude.{List, Some, [], cond, false, if◌then◌else◌, not, set, suc, true, zero, ℕ, ◌++◌, ◌||◌, ◌∷◌}
 use Rattle.std.specs.Prelude.{◌≡◌}
@@ -68,20 +66,13 @@ joined_around r k a b none same =
     ap (λ c. replaced r (a ++ k ∷ b) ++ (if c then [] else r ∷ [])) (any_around r k a b same)
     ∙ append-nil (replaced r (a ++ k ∷ b)) ∙ replaced_around r k a b none.0 none.1 same
 
-pub any_one : (r : Record RData) (xs : List (Record RData))
-    → list_any (has_data_of_one (r ∷ [])) xs ≡ list_any (has_data_of r) xs
-any_one r [] = refl
-any_one r (x ∷ xs) = λ i. or-false (has_data_of r x) i || any_one r xs i
-
 -- and the others are left where it is taken out
 pub without_around : (r k : Record RData) (a b : List (Record RData))
     → (list_any (has_data_of r) a ≡ false) × (list_any (has_data_of r) b ≡ false) → same_data k.rdata r.rdata ≡ true
-    → without (r ∷ []) (a ++ k ∷ b) ≡ a ++ b
+    → without r (a ++ k ∷ b) ≡ a ++ b
 without_around r k a b none same =
-    filter-append (λ x. not (has_data_of_one (r ∷ []) x)) a (k ∷ b)
-    ∙ (λ i. without_none (r ∷ []) a (any_one r a ∙ none.0) i
-    ++ cond (not (same i || false)) (k ∷ without (r ∷ []) b) (without (r ∷ []) b))
-    ∙ ap (λ ys. a ++ ys) (without_none (r ∷ []) b (any_one r b ∙ none.1))
+    filter-append (λ x. not (has_data_of r x)) a (k ∷ b) ∙ (λ i. without_none r a none.0 i
+    ++ cond (not (same i)) (k ∷ without r b) (without_none r b none.1 i))
 
 -- the first record of the data is that one
 pub first_around : (r k : Record RData) (a b : List (Record RData)) → list_any (has_data_of r) a ≡ false

@@ -1,7 +1,7 @@
 -- What an index of data says of the records, and what putting one in does to it.
 use Rattle.std.proofs.Common.{ℕ, zero, suc, Bool, true, false, List, [], ◌∷◌, ◌++◌, ◌≡◌, ◌≢◌, ◌&&◌, nat_eq, map, ◌||◌}
-use Rattle.std.proofs.Common.{◌⊎◌, inl, inr, refl, sym, ap, subst, ◌∙◌, length, set, arith, cond, take, drop}
-use Rattle.std.proofs.Common.{if◌then◌else◌}
+use Rattle.std.proofs.Common.{◌⊎◌, inl, inr, refl, sym, ap, subst, ◌∙◌, length, set, arith, take, drop}
+use Rattle.std.proofs.Common.{get_or, if◌then◌else◌}
 use Rattle.std.specs.Prelude.{Option, Some, None, Vec, is_some}
 use Rattle.std.specs.BTreeMap.{BTreeMap, UpdatesBy}
 use Rattle.std.specs.Cmp.{eq_by_cmp_equiv, second_so}
@@ -11,10 +11,10 @@ use Rattle.std.specs.List.{list_any, slice_get}
 use Rattle.std.specs.Map.{KeepsOthers, AreApart}
 use Rattle.std.specs.Ordering.{nat_cmp, is_eq}
 use Rattle.std.specs.declared.alloc.Global.{Global}
-use Rattle.std.proofs.lemmas.Bool.{cases_Bool, false_from_ne_true, or_parts, true≢false}
+use Rattle.std.proofs.lemmas.Bool.{cases_Bool, cond_both, false_from_ne_true, or_parts, true≢false}
 use Rattle.std.proofs.lemmas.Map.Text.{is_eq-slice_cmp}
-use Rattle.std.proofs.lemmas.Option.{same_Some, slice_get_within}
-use Rattle.std.proofs.lemmas.List.Folds.{list_any-append}
+use Rattle.std.proofs.lemmas.Option.{same_Some, slice_get-get_or, slice_get_within}
+use Rattle.std.proofs.lemmas.List.Folds.{list_any-append, list_any_none}
 use Rattle.std.proofs.Math.Bool.{or-false}
 use Rattle.base.specs.names.Labels.{wire_of}
 use Rattle.base.specs.RecordType.{same_type}
@@ -30,7 +30,8 @@ use Rattle.base_data.proofs.MXLemmas.{mx_same}
 use Rattle.base_data.proofs.NameWords.{name_same}
 use Rattle.base_data.proofs.SOALemmas.{soa_same}
 use Rattle.base_data.proofs.SRVLemmas.{srv_same}
-use Rattle.rr.specs.DataIndex.{IsCurrent, IsFirstAt, IsIndexOf, IsOnlyAt, IsPlaceFor, IsPlaceIndex, place_at}
+use Rattle.base.specs.Keys.{indexed_at}
+use Rattle.rr.specs.DataIndex.{IsCurrent, IsFirstAt, IsIndexOf, IsOnlyAt, IsPlaceFor, IsPlaceIndex}
 use Rattle.rr.specs.SetChanges.{entered, first_of, has_data_of, has_entry, joined}
 use Rattle.rr.specs.declared.record.Record.{Record}
 use Rattle.rr.specs.declared.rr_set.indexed_records.Index.{Index}
@@ -107,8 +108,7 @@ mapped_at f (x ∷ xs) (suc i) y h = mapped_at f xs i y h
 -- no record passes a test
 pub none_any : (test : Record RData → Bool) (rs : List (Record RData))
     → ((i : ℕ) (r : Record RData) → slice_get rs i ≡ Some r → test r ≡ false) → list_any test rs ≡ false
-none_any test [] h = refl
-none_any test (x ∷ xs) h = λ k. h 0 x refl k || none_any test xs (λ i r e. h (suc i) r e) k
+none_any test rs h = list_any_none test rs (λ i r below. h i (get_or rs i r) (slice_get-get_or rs i r below))
 
 -- where no record has the data none is equal
 pub no_entry : (r : Record RData) (rs : List (Record RData)) → list_any (has_data_of r) rs ≡ false
@@ -232,21 +232,22 @@ module _ (bs : List ℕ) (m n : BTreeMap (Vec ℕ Global) ℕ) (w : Option ℕ)
         ∙ sym ((bytes_decides bs k.items).0 (sym (is_eq-slice_cmp bs k.items) ∙ at))))
   ]
 
-  pub place_others : (cs : List ℕ) → cs ≢ bs → place_at n cs ≡ place_at m cs
+  pub place_others : (cs : List ℕ) → cs ≢ bs → indexed_at n cs ≡ indexed_at m cs
   unfolding KeepsOthers
   place_others cs other = h.3 (λ k. is_eq (slice_cmp nat_cmp cs k.items))
       (λ x y. (eq_by_cmp_equiv nat_list_cmp_total).congr cs x.items y.items) (apart cs other)
 
-  pub place_here : place_at n bs ≡ w
+  pub place_here : indexed_at n bs ≡ w
   place_here = h.1
 
 -- a record more, after the others
 pub pushed : (m n : BTreeMap (Vec ℕ Global) ℕ) (xs zs : List (Record RData)) (r : Record RData) (ks : List ℕ) (p : ℕ)
-    → IsIndexOf (place_at m) xs → ks ≡ canonical_data r.rdata
-    → place_at m ks ≡ None → place_at n ks ≡ Some p → ((cs : List ℕ) → cs ≢ ks → place_at n cs ≡ place_at m cs)
-    → p ≡ length xs → zs ≡ xs ++ r ∷ [] → IsIndexOf (place_at n) zs
-pushed m n xs zs r ks p h key free here others len is = index_last (place_at m) _ r h _ (place_at n) p
-    (λ cs other. others cs (λ e. other (e ∙ key))) (ap (place_at m) (sym key) ∙ free) (ap (place_at n) (sym key) ∙ here)
+    → IsIndexOf (indexed_at m) xs → ks ≡ canonical_data r.rdata
+    → indexed_at m ks ≡ None → indexed_at n ks ≡ Some p → ((cs : List ℕ) → cs ≢ ks → indexed_at n cs ≡ indexed_at m cs)
+    → p ≡ length xs → zs ≡ xs ++ r ∷ [] → IsIndexOf (indexed_at n) zs
+pushed m n xs zs r ks p h key free here others len is = index_last (indexed_at m) _ r h _ (indexed_at n) p
+    (λ cs other. others cs (λ e. other (e ∙ key))) (ap (indexed_at m) (sym key) ∙ free)
+    (ap (indexed_at n) (sym key) ∙ here)
     (λ i x e. elim (push_at xs r x i (ap (λ us. slice_get us i) (sym is) ∙ e)) [
       | inl a ↦ inl a
       | inr b ↦ inr (b.0 ∙ sym len, b.1)
@@ -296,7 +297,7 @@ pub if_current : (index : Index) (rs ss : List (Record RData))
     → ((find : List ℕ → Option ℕ) → IsIndexOf find rs → IsIndexOf find ss)
     → IsCurrent index rs → IsCurrent index ss
 if_current (Missing scans) rs ss more h = tt
-if_current (Made places) rs ss more h = more (place_at places.value) h
+if_current (Made places) rs ss more h = more (indexed_at places.value) h
 
 -- other fields change, and the data stays
 pub index_mapped : (find : List ℕ → Option ℕ) (f : Record RData → Record RData)
@@ -332,7 +333,7 @@ place_last r rs p last none = record {
 pub current_entered : (index : Index) (r : Record RData) (xs ys : List (Record RData)) (b : Bool)
     → (b, ys) ≡ entered r xs → IsCurrent index xs → IsCurrent index (joined r xs) → IsCurrent index ys
 current_entered index r xs ys b is old more =
-    subst (λ (p : Bool × List (Record RData)). IsCurrent index p.1) (sym is) (by (has_entry r xs)) where
-      by : (c : Bool) → IsCurrent index (cond {A = Bool × List (Record RData)} c (false, xs) (true, joined r xs)).1
-      by true = old
-      by false = more
+    subst (λ (p : Bool × List (Record RData)). IsCurrent index p.1) (sym is)
+    (cond_both (has_entry r xs) (false, xs) (true, joined r xs)
+      (λ (p : Bool × List (Record RData)). IsCurrent index p.1)
+    (λ _. old) (λ _. more))

@@ -12,6 +12,4 @@ pub mod SerialLemmas
 pub mod SetLaws
 pub mod SetSteps
 pub mod SetTidy
-pub mod SortedSteps
 pub mod TypeReads
-pub mod WithoutSteps

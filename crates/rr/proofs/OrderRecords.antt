@@ -1,8 +1,8 @@
 -- Which records the canonical order ties.
-use Rattle.std.proofs.Common.{◌≡◌, ℕ, Bool, refl, ap, sym, ◌∙◌, subst, rules}
+use Rattle.std.proofs.Common.{◌≡◌, Bool, refl, ap, sym, ◌∙◌, subst, rules}
 use Rattle.std.specs.Prelude.{IsTrue, ◌↔◌}
-use Rattle.std.specs.Bool.{Decides}
-use Rattle.std.specs.Cmp.{Equal-is, IsTotalOrder, nat_cmp_total, tied_itself, unsigned_Decides, unsigned_ties}
+use Rattle.std.proofs.lemmas.Map.Lookups.{exact_unsigned}
+use Rattle.std.specs.Cmp.{Equal-is, IsTotalOrder, nat_cmp_total, tied_itself}
 use Rattle.std.specs.Cmp.Rules.{comparing}
 use Rattle.std.specs.Ordering.{is_eq, nat_cmp, ordering_then}
 use Rattle.std.specs.declared.cmp.Ordering.{Ordering}
@@ -11,12 +11,13 @@ use Rattle.base.specs.DNSClass.{class_cmp}
 use Rattle.base.specs.names.NameOrder.{folded, name_cmp, same_name}
 use Rattle.base.specs.names.NameOrderLaws.{same_by-tie}
 use Rattle.base.specs.Keys.{keys_match}
-use Rattle.base.specs.RecordType.{same_type, type_cmp, type_number, type_rank}
+use Rattle.base.specs.RecordType.{type_cmp, type_number, type_rank}
 use Rattle.base.specs.declared.dns_class.DNSClass.{DNSClass}
 use Rattle.base.specs.declared.record_type.RecordType.{RecordType}
 use Rattle.base_data.specs.Kinds.{KeptData, type_of_data}
 use Rattle.base_data.specs.DataOrder.{data_cmp}
 use Rattle.base_data.proofs.DataTies.{data_ties}
+use Rattle.base_data.proofs.SameData.{types_Decide}
 use Rattle.base_data.specs.contracts.rdata.RDataPartialEq.TheImpl.{ghosts as equality}
 use Rattle.base_data.specs.declared.rdata.RData.{RData}
 use Rattle.rr.specs.RecordOrder.{record_cmp}
@@ -38,17 +39,11 @@ tied_same : {K : Type 0} {R : K → K → Ordering} → IsTotalOrder R → ((x y
     → (R x y ≡ Equal) ↔ (x ≡ y)
 tied_same {R = R} total exact x y = (exact x y, λ same. subst (λ z. R x z ≡ Equal) same (tied_itself total x))
 
-types_Decide : (a b : RecordType) → Decides (same_type a b) (a ≡ b)
-types_Decide = search rules
-
 types_tied : (a b : RecordType) → type_cmp a b ≡ Equal → a ≡ b
 types_tied a b h = (types_Decide a b).0 (keys_match type_number type_rank a b ∙ ap is_eq h)
 
 classes_tied : (a b : DNSClass) → class_cmp a b ≡ Equal → a ≡ b
 classes_tied = search (comparing, rules)
-
-numbers_tied : (a b : ℕ) → nat_cmp a b ≡ Equal → a ≡ b
-numbers_tied a b h = (unsigned_Decides a b).0 (unsigned_ties a b ∙ ap is_eq h)
 
 pub records_tied : (a b : Record RData) → KeptData a.rdata → KeptData b.rdata → (record_cmp a b ≡ Equal)
     ↔ (IsTrue (same_name a.name b.name) × (type_of_data a.rdata ≡ type_of_data b.rdata) × (a.dns_class ≡ b.dns_class)
@@ -57,7 +52,7 @@ records_tied a b fits_a fits_b =
     let names = tied_as (same_name a.name b.name) (name_cmp a.name b.name) (same_by-tie folded a.name b.name) in
     let types = tied_same type_cmp-total types_tied (type_of_data a.rdata) (type_of_data b.rdata) in
     let classes = tied_same class_cmp-total classes_tied a.dns_class b.dns_class in
-    let ttls = tied_same nat_cmp_total numbers_tied a.ttl b.ttl in
+    let ttls = tied_same nat_cmp_total exact_unsigned a.ttl b.ttl in
     let datas = data_ties a.rdata b.rdata fits_a fits_b in
     let first = then_tied (name_cmp a.name b.name) _ in
     let second = then_tied (type_cmp (type_of_data a.rdata) (type_of_data b.rdata)) _ in

@@ -3,14 +3,14 @@ use Rattle.base.proofs.writing.LawLemmas.{none_is_not}
 use Rattle.base_data.specs.Kinds.{canonical_data}
 use Rattle.base_data.specs.SameData.{same_data}
 use Rattle.base_data.specs.declared.rdata.RData.{RData}
-use Rattle.rr.proofs.Around.{alone, any_around, any_one, cut, joined_after, joined_around, without_around}
+use Rattle.rr.proofs.Around.{alone, any_around, cut, joined_after, joined_around, without_around}
 use Rattle.rr.proofs.IndexLemmas.{Stands, equal_at, index_here, index_last, not_found, not_there, push_at, set_at}
 use Rattle.rr.proofs.SetLaws.{Distinct, laws}
-use Rattle.rr.proofs.SetTidy.{distinct_left, distinct_put}
-use Rattle.rr.specs.DataIndex.{IsPlaceIndex, place_at}
+use Rattle.rr.proofs.SetTidy.{distinct_joined, distinct_left}
+use Rattle.base.specs.Keys.{indexed_at}
+use Rattle.rr.specs.DataIndex.{IsPlaceIndex}
 use Rattle.rr.specs.PlacedRecords.{IsIn, IsIndexed, IsPlaced, present}
-use Rattle.rr.specs.SetChanges.{has_data_of, joined}
-use Rattle.rr.specs.SetUpdates.{has_data_of_one, without}
+use Rattle.rr.specs.SetChanges.{has_data_of, joined, without}
 use Rattle.rr.specs.declared.record.Record.{Record}
 use Rattle.std.proofs.Common.{ap, append_assoc, arith, drop, get_or, inl, inr, length-append, refl, subst, sym, take}
 use Rattle.std.proofs.Common.{◌∙◌}
@@ -55,16 +55,15 @@ module _ (ps : Places) (p : ℕ) where
         ∙ sym (joined_around r h.known before after (alone r h.known before after (subst Distinct is d) h.same) h.same)
         ∙ ap (joined r) (sym is)
 
-    pub without_here : Distinct (present ps) → present (set ps p None) ≡ without (r ∷ []) (present ps)
+    pub without_here : Distinct (present ps) → present (set ps p None) ≡ without r (present ps)
     without_here d =
         let is = there h.known h.here in
         put (Some h.known) None h.here
         ∙ sym (without_around r h.known before after (alone r h.known before after (subst Distinct is d) h.same) h.same)
-        ∙ ap (without (r ∷ [])) (sym is)
+        ∙ ap (without r) (sym is)
 
-    pub only_one : list_any (has_data_of_one (r ∷ [])) (present ps) ≡ true
-    only_one = any_one r (present ps) ∙ ap (list_any (has_data_of r)) (there h.known h.here)
-        ∙ any_around r h.known before after h.same
+    pub only_one : list_any (has_data_of r) (present ps) ≡ true
+    only_one = ap (list_any (has_data_of r)) (there h.known h.here) ∙ any_around r h.known before after h.same
 
     pub count_here : length (present (set ps p (Some r))) ≡ length (present ps)
     count_here = ap length (put (Some h.known) (Some r) h.here) ∙ length-append before (r ∷ after)
@@ -151,13 +150,13 @@ pub if_index : (index : Index) (ps qs : Places)
     → ((find : List ℕ → Option ℕ) → IsPlaceIndex find (StandsIn ps) → IsPlaceIndex find (StandsIn qs))
     → IsIndexed index ps → IsIndexed index qs
 if_index None ps qs more h = tt
-if_index (Some m) ps qs more h = more (place_at m) h
+if_index (Some m) ps qs more h = more (indexed_at m) h
 
 -- a record in the place of one of its data, or after all where there is none
 pub placed_here : (index : Index) (ps : Places) (p : ℕ) (r : Record RData) → IsPlaced index ps → IsIn r.rdata ps p
     → IsPlaced index (set ps p (Some r))
 placed_here index ps p r h here = record {
-  distinct = subst Distinct (sym (joined_here ps p r here h.distinct)) (distinct_put r (present ps) _ refl h.distinct);
+  distinct = subst Distinct (sym (joined_here ps p r here h.distinct)) (distinct_joined r (present ps) h.distinct);
   indexed = if_index index ps (set ps p (Some r))
       (λ find k. index_here find (StandsIn ps) r k _ p here.known here.here here.same
       (λ i x e. elim (set_at ps p i (Some here.known) (Some r) (Some x) here.here e) [
@@ -170,7 +169,7 @@ pub placed_last : (index : Index) (ps : Places) (r : Record RData) → Distinct 
     → list_any (has_data_of r) (present ps) ≡ false
     → IsIndexed index (ps ++ Some r ∷ []) → IsPlaced index (ps ++ Some r ∷ [])
 placed_last index ps r d none h = record {
-  distinct = subst Distinct (sym (joined_last r ps none)) (distinct_put r (present ps) _ refl d);
+  distinct = subst Distinct (sym (joined_last r ps none)) (distinct_joined r (present ps) d);
   indexed = h;
 }
 
@@ -179,7 +178,7 @@ pub placed_taken : (index : Index) (ps : Places) (p : ℕ) (r : Record RData) �
     → IsIndexed index (set ps p None) → IsPlaced index (set ps p None)
 placed_taken index ps p r d here h = record {
   distinct = subst Distinct (sym (without_here ps p r here d))
-      (distinct_left (λ x. not (has_data_of_one (r ∷ []) x)) (present ps) d);
+      (distinct_left (λ x. not (has_data_of r x)) (present ps) d);
   indexed = h;
 }
 

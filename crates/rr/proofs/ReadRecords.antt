@@ -279,11 +279,11 @@ value_stands B i r e word reads = record {
 }
 
 -- the class field of a class number that leaves the top bit free
-class_kept : (top : Bool) (n : ℕ) → n < 32768 → field_class (class_field top n) ≡ class_of n
+pub class_kept : (top : Bool) (n : ℕ) → n < 32768 → field_class (class_field top n) ≡ class_of n
 class_kept true n narrow = let e : (32768 + n % 32768) % 32768 ≡ n = omega arith in ap class_of e
 class_kept false n narrow = let e : n % 32768 ≡ n = omega arith in ap class_of e
 
-top_kept : (top : Bool) (n : ℕ) → n < 32768 → field_top (class_field top n) ≡ top
+pub top_kept : (top : Bool) (n : ℕ) → n < 32768 → field_top (class_field top n) ≡ top
 top_kept true n narrow = le-leb 32768 (32768 + n % 32768) (omega arith)
 top_kept false n narrow = lt-leb 32768 n narrow
 

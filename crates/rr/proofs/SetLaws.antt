@@ -1,10 +1,12 @@
 -- Laws of record sets.
 use Rattle.std.proofs.Common.{ℕ, Bool, true, false, not, cond, List, [], ◌∷◌, ◌≡◌, ◌≢◌, ◌<◌, ◌||◌, ◌&&◌, ◌++◌, nat_eq}
-use Rattle.std.proofs.Common.{nat_le, refl, sym, ap, subst, ◌∙◌, length, filter, arith, if◌then◌else◌, ⊎_elim}
+use Rattle.std.proofs.Common.{nat_le, refl, sym, ap, subst, ◌∙◌, length, arith, if◌then◌else◌, ⊎_elim}
 use Rattle.std.specs.List.{list_any, AllByRecursion, IsDistinct}
 use Rattle.std.specs.Ordering.{on}
 use Rattle.std.specs.Cmp.{IsEquivalence, nat_eq_equiv}
-use Rattle.std.proofs.lemmas.Bool.{cond-true, cond-false, or_parts, not-false, leb-false, or_cases}
+use Rattle.std.proofs.lemmas.Bool.{cond-true, cond_both, and_parts, false_from_ne_true, or_parts, not-false, leb-false}
+use Rattle.std.proofs.lemmas.Bool.{or_cases}
+use Rattle.std.proofs.lemmas.Bool.{true≢false}
 use Rattle.std.proofs.lemmas.List.{append-nil}
 use Rattle.base_data.specs.Kinds.{type_of_data}
 use Rattle.base_data.specs.declared.rdata.RData.{RData}
@@ -18,7 +20,7 @@ use Rattle.std.proofs.Math.Bool.{or-true}
 use Rattle.rr.specs.declared.record.Record.{Record}
 use Rattle.rr.specs.RecordSet.{IsTidy, SetValue, is_ns, is_soa, same_entry, same_entry-equiv}
 use Rattle.rr.specs.SetChanges.{beside, has_data_of, has_entry, insert, is_kept, is_later, is_left, joined, own_record}
-use Rattle.rr.specs.SetChanges.{remove, replaced}
+use Rattle.rr.specs.SetChanges.{remove, replaced, without}
 use Rattle.rr.specs.SetLaws.{IsRaised, StaysFilled}
 
 pub laws : IsEquivalence same_data
@@ -39,28 +41,19 @@ pub apart : (x y r : Record RData) → same_data x.rdata y.rdata ≡ false → s
 apart x y r far near = laws.symm x.rdata r.rdata ∙ sym (laws.congr y.rdata r.rdata x.rdata near)
     ∙ laws.symm y.rdata x.rdata ∙ far
 
-pub distinct_kept : (b : Bool) (xs : List (Record RData)) → Distinct xs → Distinct (if b then [] else xs)
-unfolding IsDistinct
-distinct_kept true xs d = tt
-distinct_kept false xs d = d
-
 abbrev pub unless_kept : Bool → SetValue → Bool × SetValue → Bool × SetValue
 unless_kept b set p = if b then (false, set) else p
 
-stays_so : (set changed : SetValue) (b : Bool) → (unless_kept b set (true, changed)).0 ≡ false
-    → (unless_kept b set (true, changed)).1 ≡ set
-stays_so set changed true h = refl
-stays_so set changed false h = cc
+-- the set that an insert makes of one, where it makes another
+abbrev pub grown : SetValue → Record RData → ℕ → SetValue
+grown set r serial =
+    record set { records = joined r (beside set.record_type set.records); ttl = r.ttl; serial = serial }
 
 -- an insert that answers false changes nothing
 pub false_keeps : (set : SetValue) (r : Record RData) (serial : ℕ) → (insert set r serial).0 ≡ false
     → (insert set r serial).1 ≡ set
-false_keeps set r serial = stays_so set (record set {
-  records = joined r (beside set.record_type set.records);
-  ttl =
-      r.ttl;
-  serial = serial;
-}) (is_left set.record_type set.records r)
+false_keeps set r serial = cond_both (is_left set.record_type set.records r) (false, set) (true, grown set r serial)
+    (λ (p : Bool × SetValue). p.0 ≡ false → p.1 ≡ set) (λ _ h. refl) (λ _ h. cc)
 
 -- after one that answers true the record is there
 its_own : (r : Record RData) → (same_entry r r && nat_eq r.ttl r.ttl) ≡ true
@@ -83,54 +76,32 @@ held_pushed r [] = ap (λ b. b || false) (its_own r)
 held_pushed r (x ∷ xs) = ap (λ b. (same_entry x r && nat_eq x.ttl r.ttl) || b) (held_pushed r xs)
     ∙ or-true (same_entry x r && nat_eq x.ttl r.ttl)
 
-held_by : (r : Record RData) (xs : List (Record RData)) (b : Bool) → list_any (has_data_of r) xs ≡ b
-    → has_entry r (replaced r xs ++ (if b then [] else r ∷ [])) ≡ true
-held_by r xs true any = subst (λ ys. has_entry r ys ≡ true) (sym (append-nil (replaced r xs))) (held_replaced r xs any)
-held_by r xs false none = held_pushed r (replaced r xs)
-
-held_so : (r : Record RData) (set changed : SetValue) (b : Bool) → has_entry r changed.records ≡ true
-    → (unless_kept b set (true, changed)).0 ≡ true
-    → has_entry r (unless_kept b set (true, changed)).1.records ≡ true
-held_so r set changed true held h = cc
-held_so r set changed false held h = held
+held_joined : (r : Record RData) (xs : List (Record RData)) → has_entry r (joined r xs) ≡ true
+held_joined r xs = cond_both (list_any (has_data_of r) xs) [] (r ∷ []) (λ zs. has_entry r (replaced r xs ++ zs) ≡ true)
+    (λ any. ap (has_entry r) (append-nil (replaced r xs)) ∙ held_replaced r xs any)
+    (λ none. held_pushed r (replaced r xs))
 
 pub true_holds : (set : SetValue) (r : Record RData) (serial : ℕ) → (insert set r serial).0 ≡ true
     → has_entry r (insert set r serial).1.records ≡ true
-true_holds set r serial = held_so r set (record set {
-  records = joined r (beside set.record_type
-      set.records);
-  ttl = r.ttl;
-  serial = serial;
-}) (is_left set.record_type set.records r) (held_by r
-    (beside set.record_type set.records) _ refl)
+true_holds set r serial = cond_both (is_left set.record_type set.records r) (false, set) (true, grown set r serial)
+    (λ (p : Bool × SetValue). p.0 ≡ true → has_entry r p.1.records ≡ true) (λ _ h. cc)
+    (λ _ h. held_joined r (beside set.record_type set.records))
 
 -- the last name server stays
-not_both : (x y r : Record RData) → same_data x.rdata y.rdata ≡ false → has_data_of r x ≡ true → has_data_of r y ≡ false
-not_both x y r far e = sym (laws.congr x.rdata r.rdata y.rdata e ∙ laws.symm r.rdata y.rdata) ∙ far
-
-full_of_two : (x y r : Record RData) (zs : List (Record RData)) (b : Bool) → has_data_of r x ≡ b
-    → same_data x.rdata y.rdata ≡ false → filter (λ z. not (has_data_of r z)) (x ∷ y ∷ zs) ≢ []
-full_of_two x y r zs true e far f =
-    let ys = filter (λ z. not (has_data_of r z)) zs in
-    let first : filter (λ z. not (has_data_of r z)) (x ∷ y ∷ zs) ≡ cond (not (has_data_of r y)) (y ∷ ys) ys =
-    cond-false (not (has_data_of r x)) _ _ (ap not e) in
-    let second : cond (not (has_data_of r y)) (y ∷ ys) ys ≡ y ∷ ys =
-    cond-true (not (has_data_of r y)) _ _ (ap not (not_both x y r far e)) in
-    let made : y ∷ ys ≡ [] = sym (first ∙ second) ∙ f in
-    cc
-full_of_two x y r zs false e far f =
-    let ys = filter (λ z. not (has_data_of r z)) (y ∷ zs) in
-    let first : filter (λ z. not (has_data_of r z)) (x ∷ y ∷ zs) ≡ x ∷ ys =
-    cond-true (not (has_data_of r x)) _ _ (ap not e) in
-    let made : x ∷ ys ≡ [] = sym first ∙ f in
-    cc
+left_of_two : (x y : Record RData) (zs : List (Record RData)) (b c : Bool) → (b && c) ≡ false
+    → cond (not b) (x ∷ cond (not c) (y ∷ zs) zs) (cond (not c) (y ∷ zs) zs) ≢ []
+left_of_two x y zs true true e f = cc
+left_of_two x y zs true false e f = cc
+left_of_two x y zs false c e f = cc
 
 -- of two and more records of distinct data, taking out those of one data leaves some
-pub some_left : (r : Record RData) (xs : List (Record RData)) → Distinct xs → 1 < length xs
-    → filter (λ z. not (has_data_of r z)) xs ≢ []
+pub some_left : (r : Record RData) (xs : List (Record RData)) → Distinct xs → 1 < length xs → without r xs ≢ []
 some_left r [] d h = absurd (omega arith)
 some_left r (x ∷ []) d h = absurd (omega arith)
-some_left r (x ∷ y ∷ zs) d h = full_of_two x y r zs _ refl (parts_of x (y ∷ zs) d).0.0
+some_left r (x ∷ y ∷ zs) d h = left_of_two x y (without r zs) (has_data_of r x) (has_data_of r y)
+    (false_from_ne_true _ (λ e. let both = and_parts (has_data_of r x) (has_data_of r y) e in
+    true≢false (sym (laws.congr x.rdata r.rdata y.rdata both.0 ∙ laws.symm r.rdata y.rdata ∙ both.1)
+    ∙ (parts_of x (y ∷ zs) d).0.0)))
 
 in_type : (t : RecordType) (r : Record RData) (xs : List (Record RData))
     → AllByRecursion (λ (x : Record RData). type_of_data x.rdata ≡ t) xs → list_any (has_data_of r) xs ≡ true
@@ -142,15 +113,10 @@ in_type t r (x ∷ xs) own h = ⊎_elim
     (or_cases (has_data_of r x) (list_any (has_data_of r) xs) h)
 
 -- a set of name servers with a record does not become empty
-abbrev taken : SetValue → Record RData → ℕ → Bool × SetValue
-taken set r serial = (true, record set { records = filter (λ x. not (has_data_of r x)) set.records; serial = serial })
-
-left_by : (set : SetValue) (r : Record RData) (serial : ℕ) (b : Bool)
-    → (is_kept set (type_of_data r.rdata) || not (list_any (has_data_of r) set.records)) ≡ b
-    → is_ns set.record_type ≡ true → IsTidy set → set.records ≢ []
-    → (cond {A = Bool × SetValue} b (false, set) (taken set r serial)).1.records ≢ []
-left_by set r serial true e ns tidy full = full
-left_by set r serial false e ns tidy full =
+some_stay : (set : SetValue) (r : Record RData) → is_ns set.record_type ≡ true → IsTidy set
+    → (is_kept set (type_of_data r.rdata) || not (list_any (has_data_of r) set.records)) ≡ false
+    → without r set.records ≢ []
+some_stay set r ns tidy e =
     let parts : (is_kept set (type_of_data r.rdata) ≡ false) × (not (list_any (has_data_of r) set.records) ≡ false) =
     or_parts (is_kept set (type_of_data r.rdata)) _ e in
     let type : type_of_data r.rdata ≡ set.record_type =
@@ -166,29 +132,18 @@ joined_filled : (r : Record RData) (xs : List (Record RData)) → joined r xs �
 joined_filled r [] same = cc
 joined_filled r (x ∷ xs) same = cc
 
-unless_left : (set : SetValue) (after : Bool × SetValue) (b : Bool) → set.records ≢ [] → after.1.records ≢ []
-    → (cond {A = Bool × SetValue} b (false, set) after).1.records ≢ []
-unless_left set after true full more = full
-unless_left set after false full more = more
-
 insert_filled : (set : SetValue) (r : Record RData) (serial : ℕ) → set.records ≢ []
     → (insert set r serial).1.records ≢ []
 insert_filled set r serial full =
-    unless_left set (
-      true,
-      record set {
-        records = joined r (beside set.record_type set.records);
-        ttl = r.ttl;
-        serial =
-            serial;
-      },
-    )
-    (is_left set.record_type set.records r) full (joined_filled r (beside set.record_type set.records))
+    cond_both (is_left set.record_type set.records r) (false, set) (true, grown set r serial)
+    (λ (p : Bool × SetValue). p.1.records ≢ []) (λ _. full) (λ _. joined_filled r (beside set.record_type set.records))
 
 pub last_server_stays : (set : SetValue) → IsTidy set → is_ns set.record_type ≡ true → set.records ≢ []
     → StaysFilled set
 last_server_stays set tidy ns full = record {
-  removed = λ r serial. left_by set r serial _ refl ns tidy full;
+  removed = λ r serial. cond_both (is_kept set (type_of_data r.rdata) || not (list_any (has_data_of r) set.records))
+      (false, set) (true, record set { records = without r set.records; serial = serial })
+      (λ (p : Bool × SetValue). p.1.records ≢ []) (λ _. full) (some_stay set r ns tidy);
   inserted = λ r serial. insert_filled set r serial full;
   added = λ rdata. insert_filled set (own_record set rdata) 0 full;
 }

@@ -1,52 +1,43 @@
 -- Steps of putting a record among others.
 use Rattle.std.proofs.Common.{ℕ, zero, suc, Bool, true, false, not, List, [], ◌∷◌, ◌++◌, ◌≡◌, ◌<◌, ◌≤◌, ◌+◌, ◌==◌, ◌||◌}
-use Rattle.std.proofs.Common.{◌&&◌, nat_eq, refl, sym, ap, subst, ◌∙◌, length}
-use Rattle.std.proofs.Common.{take, drop, set, get_or, arith, if◌then◌else◌}
+use Rattle.std.proofs.Common.{◌&&◌, nat_eq, refl, sym, ap, ◌∙◌, length}
+use Rattle.std.proofs.Common.{cond, take, drop, set, get_or, arith, if◌then◌else◌}
 use Rattle.std.specs.List.{AllByRecursion, list_any}
 use Rattle.base_data.specs.declared.rdata.RData.{RData}
 use Rattle.rr.specs.declared.record.Record.{Record}
-use Rattle.std.proofs.lemmas.Bool.Decides.{nat_tests}
-use Rattle.std.proofs.lemmas.Bool.{cond-true, cond-false, or_parts}
-use Rattle.std.proofs.lemmas.List.{append-nil, drop_all, length-set, take_all}
-use Rattle.std.proofs.Math.Bool.{or-false, or-true}
+use Rattle.std.proofs.lemmas.Bool.{cond-true, cond-false, ne_eqb, or_parts}
+use Rattle.std.proofs.lemmas.List.{append-nil, drop_all, length_push, take_all}
+use Rattle.std.proofs.lemmas.List.Folds.{list_any_more}
+use Rattle.std.proofs.Math.Bool.{and-false, and-true, or-false, or-true}
 use Rattle.base.specs.names.NameOrder.{folded, same_name}
 use Rattle.base.specs.names.NameOrderLaws.{same_by-equiv}
 use Rattle.base_data.specs.Kinds.{type_of_data}
-use Rattle.rr.specs.SetChanges.{MayAdd, MayEnter, has_data_of, renewed, replaced}
+use Rattle.rr.specs.SetChanges.{MayAdd, MayEnter, has_data_of, renewed, replaced, without}
 use Rattle.rr.specs.RecordOrder.{same_class}
 use Rattle.rr.specs.RecordSet.{SetValue, same_entry}
 use Rattle.base_data.specs.SameData.{same_data}
 
-and_no : (a : Bool) → false ≡ (a && false)
-and_no true = refl
-and_no false = refl
-
-and_yes : (a : Bool) → a ≡ (a && true)
-and_yes true = refl
-and_yes false = refl
-
 -- what a record of another TTL, of other data and of another class is not
 pub other_ttl : (x r : Record RData) → nat_eq x.ttl r.ttl ≡ false → false ≡ (same_entry x r && nat_eq x.ttl r.ttl)
-other_ttl x r h = and_no (same_entry x r) ∙ ap (λ b. same_entry x r && b) (sym h)
+other_ttl x r h = sym (ap (λ b. same_entry x r && b) h ∙ and-false (same_entry x r))
 
 pub of_one_ttl : (x r : Record RData) → nat_eq x.ttl r.ttl ≡ true
     → same_entry x r ≡ (same_entry x r && nat_eq x.ttl r.ttl)
-of_one_ttl x r h = and_yes (same_entry x r) ∙ ap (λ b. same_entry x r && b) (sym h)
+of_one_ttl x r h = sym (ap (λ b. same_entry x r && b) h ∙ and-true (same_entry x r))
 
 pub other_class : (x r : Record RData) → same_class x.dns_class r.dns_class ≡ false → false ≡ same_entry x r
-other_class x r h = and_no (same_name x.name r.name)
-    ∙ ap (λ b. same_name x.name r.name && (b && same_data x.rdata r.rdata)) (sym h)
+other_class x r h = sym (ap (λ b. same_name x.name r.name && (b && same_data x.rdata r.rdata)) h
+    ∙ and-false (same_name x.name r.name))
 
 pub of_one_class : (x r : Record RData) → same_class x.dns_class r.dns_class ≡ true → same_data x.rdata r.rdata ≡ true
     → same_name x.name r.name ≡ same_entry x r
-of_one_class x r h d = and_yes (same_name x.name r.name)
-    ∙ ap (λ b. same_name x.name r.name && b) (λ i. sym h i && sym d i)
+of_one_class x r h d = sym ((λ i. same_name x.name r.name && (h i && d i)) ∙ and-true (same_name x.name r.name))
 
 pub other_data : (x r : Record RData) → same_data x.rdata r.rdata ≡ false
     → false ≡ (same_entry x r && nat_eq x.ttl r.ttl)
-other_data x r h =
-    ap (λ b. b && nat_eq x.ttl r.ttl) (and_no (same_name x.name r.name) ∙ ap (λ b. same_name x.name r.name && b)
-    (and_no (same_class x.dns_class r.dns_class) ∙ ap (λ b. same_class x.dns_class r.dns_class && b) (sym h)))
+other_data x r h = sym (ap (λ b. b && nat_eq x.ttl r.ttl) (ap (λ b. same_name x.name r.name && b)
+    (ap (λ b. same_class x.dns_class r.dns_class && b) h ∙ and-false (same_class x.dns_class r.dns_class))
+    ∙ and-false (same_name x.name r.name)))
 
 -- one more place
 pub replaced_yes : (r : Record RData) (xs : List (Record RData)) (i : ℕ) (d : Record RData) → i < length xs
@@ -72,6 +63,14 @@ replaced_none r (x ∷ xs) h =
     let parts : (has_data_of r x ≡ false) × (list_any (has_data_of r) xs ≡ false) = or_parts (has_data_of r x) _ h in
     let first : (if has_data_of r x then r else x) ≡ x = cond-false (has_data_of r x) r x parts.0 in
     λ i. first i ∷ replaced_none r xs parts.1 i
+
+-- where none has the data of r, all stay
+pub without_none : (r : Record RData) (xs : List (Record RData)) → list_any (has_data_of r) xs ≡ false
+    → without r xs ≡ xs
+without_none r [] h = refl
+without_none r (x ∷ xs) h =
+    let parts : (has_data_of r x ≡ false) × (list_any (has_data_of r) xs ≡ false) = or_parts (has_data_of r x) _ h in
+    λ i. cond (not (parts.0 i)) (x ∷ without_none r xs parts.1 i) (without r xs)
 
 -- nothing is left to be replaced
 pub replaced_all : (r : Record RData) (xs : List (Record RData)) (i : ℕ) → length xs ≤ i
@@ -120,37 +119,17 @@ copy_skipped {d} r xs ps i h e read t =
     e ∙ replaced_no r xs i d h (test_at r d xs i false h read t)
     ∙ ap (λ n. replaced r (take n xs) ++ drop n xs) (one_more i)
 
-any_at : (b c : Bool) (x : Bool) → (b || (c || x)) ≡ ((b || c) || x)
-any_at true c x = refl
-any_at false c x = refl
-
-any_next : (r : Record RData) (xs : List (Record RData)) (i : ℕ) (d : Record RData) → i < length xs
-    → list_any (has_data_of r) (take (suc i) xs)
-    ≡ (list_any (has_data_of r) (take i xs) || has_data_of r (get_or xs i d))
-any_next r [] i d h = absurd (omega arith)
-any_next r (x ∷ xs) zero d h = or-false (has_data_of r x)
-any_next r (x ∷ xs) (suc i) d h = ap (λ b. has_data_of r x || b) (any_next r xs i d (omega arith))
-    ∙ any_at (has_data_of r x) _ _
-
 any_upto : (r d : Record RData) (xs : List (Record RData)) (i : ℕ) (b : Bool) → i < length xs → d ≡ get_or xs i d
     → same_data d.rdata r.rdata ≡ b → list_any (has_data_of r) (take (i + 1) xs)
     ≡ (list_any (has_data_of r) (take i xs) || b)
-any_upto r d xs i b h read t =
-    ap (λ n. list_any (has_data_of r) (take n xs)) (sym (one_more i)) ∙ any_next r xs i d h
+any_upto r d xs i b h read t = list_any_more (has_data_of r) xs i d h
     ∙ ap (λ c. list_any (has_data_of r) (take i xs) || c) (ap (has_data_of r) (sym read) ∙ t)
-
-no_zero : (n : ℕ) → (suc n == 0) ≡ false
-no_zero n = grind (arith, nat_tests)
-
-not_empty : {A : Type 0} (ps : List A) (p : A) → (length (ps ++ p ∷ []) == 0) ≡ false
-not_empty [] p = refl
-not_empty (q ∷ ps) p = no_zero (length (ps ++ p ∷ []))
 
 -- a place with the same data was found
 pub any_found : (r d : Record RData) (xs : List (Record RData)) (ps : List (ℕ × Record RData)) (p : ℕ × Record RData)
     (i : ℕ) → i < length xs → d ≡ get_or xs i d → same_data d.rdata r.rdata ≡ true
     → (length (ps ++ p ∷ []) == 0) ≡ not (list_any (has_data_of r) (take (i + 1) xs))
-any_found r d xs ps p i h read t = not_empty ps p
+any_found r d xs ps p i h read t = ne_eqb (length (ps ++ p ∷ [])) 0 (omega (arith, length_push ps p))
     ∙ sym (ap not (any_upto r d xs i true h read t ∙ or-true (list_any (has_data_of r) (take i xs))))
 
 -- there is none at this place
@@ -165,23 +144,6 @@ pub within_push : (n : ℕ) (ps : List (ℕ × Record RData)) (p : ℕ × Record
     → AllByRecursion (λ (q : ℕ × Record RData). q.0 < n) (ps ++ p ∷ [])
 within_push n [] p h l = (l, tt)
 within_push n (q ∷ ps) p h l = (h.0, within_push n ps p h.1 l)
-
--- one copy less is left
-pub renew_step : (xs ys zs : List (Record RData)) (ps qs : List (ℕ × Record RData)) (p : ℕ × Record RData) → ps ≡ p ∷ qs
-    → ys ≡ set xs p.0 p.1 → renewed ps xs ≡ zs → renewed qs ys ≡ zs
-renew_step xs ys zs ps qs p e write h = ap (renewed qs) write ∙ ap (λ us. renewed us xs) (sym e) ∙ h
-
-pub within_first : (n : ℕ) (ps qs : List (ℕ × Record RData)) (p : ℕ × Record RData) → ps ≡ p ∷ qs
-    → AllByRecursion (λ (q : ℕ × Record RData). q.0 < n) ps → p.0 < n
-within_first n ps qs p e h = (subst (λ us. AllByRecursion (λ (q : ℕ × Record RData). q.0 < n) us) e h).0
-
-pub within_step : (xs ys : List (Record RData)) (ps qs : List (ℕ × Record RData)) (p : ℕ × Record RData) → ps ≡ p ∷ qs
-    → ys ≡ set xs p.0 p.1
-    → AllByRecursion (λ (q : ℕ × Record RData). q.0 < length xs) ps
-    → AllByRecursion (λ (q : ℕ × Record RData). q.0 < length ys) qs
-within_step xs ys ps qs p e write h =
-    subst (λ n. AllByRecursion (λ (q : ℕ × Record RData). q.0 < n) qs) (sym (ap length write ∙ length-set xs p.0 p.1))
-    ((subst (λ us. AllByRecursion (λ (q : ℕ × Record RData). q.0 < length xs) us) e h).1)
 
 pub len_step : {X : Type 0} (m n : ℕ) (ps qs : List X) (p : X) → ps ≡ p ∷ qs → n + 1 ≡ m → m ≡ length ps → n ≡ length qs
 len_step m n ps qs p e less h = omega (arith, less, h, ap length e)

@@ -1,10 +1,7 @@
 -- The index of the data of records: the place of each at a key, the bytes of the canonical form of its data.
-use Rattle.std.specs.Prelude.{true, false, ℕ, ◌<◌, ◌≤◌, ◌≡◌, ◌≢◌, List, Option, Some, Vec, length}
-use Rattle.std.specs.BTreeMap.{BTreeMap, get_by}
-use Rattle.std.specs.Cmp.Lexicographic.{slice_cmp}
+use Rattle.std.specs.Prelude.{true, false, ℕ, ◌<◌, ◌≤◌, ◌≡◌, ◌≢◌, List, Option, Some, length}
 use Rattle.std.specs.List.{list_any, slice_get}
-use Rattle.std.specs.Ordering.{nat_cmp}
-use Rattle.std.specs.declared.alloc.Global.{Global}
+use Rattle.base.specs.Keys.{indexed_at}
 use Rattle.base_data.specs.Kinds.{canonical_data}
 use Rattle.base_data.specs.SameData.{same_data}
 use Rattle.base_data.specs.declared.rdata.RData.{RData}
@@ -12,10 +9,6 @@ use Rattle.rr.specs.SetChanges.{first_of, has_data_of}
 use Rattle.rr.specs.declared.record.Record.{Record}
 use Rattle.rr.specs.declared.rr_set.indexed_records.Index.{Index}
 use Rattle.rr.specs.declared.rr_set.indexed_records.Index.TheVariants.{Missing, Made}
-
--- the place that the index has at a key
-abbrev pub place_at : BTreeMap (Vec ℕ Global) ℕ → List ℕ → Option ℕ
-place_at index key = get_by (λ k. slice_cmp nat_cmp key k.items) index
 
 -- The index has the place of each record, where these stand, at the key of its data. So no two of them have equal
 -- data. What it has at other keys is open.
@@ -29,7 +22,7 @@ IsIndexOf find rs = IsPlaceIndex find (λ i r. slice_get rs i ≡ Some r)
 -- An index that there is, is that of these records.
 abbrev pub IsCurrent : Index → List (Record RData) → Type 0
 IsCurrent (Missing scans) rs = Unit {0}
-IsCurrent (Made places) rs = IsIndexOf (place_at places.value) rs
+IsCurrent (Made places) rs = IsIndexOf (indexed_at places.value) rs
 
 -- At this place, and at no other, there is a record of this data.
 pub record IsOnlyAt (rdata : RData) (rs : List (Record RData)) (p : ℕ) : Type 0 where

@@ -11,5 +11,3 @@ pub mod SerialOrder
 pub mod SetChanges
 pub mod SetLaws
 pub mod SetParts
-pub mod SetUpdates
-pub mod SortedData

@@ -1,7 +1,8 @@
 -- Records that keep their places: the place of a record that was taken out is empty.
 use Rattle.base_data.specs.SameData.{same_data}
 use Rattle.base_data.specs.declared.rdata.RData.{RData}
-use Rattle.rr.specs.DataIndex.{IsPlaceIndex, place_at}
+use Rattle.base.specs.Keys.{indexed_at}
+use Rattle.rr.specs.DataIndex.{IsPlaceIndex}
 use Rattle.rr.specs.declared.record.Record.{Record}
 use Rattle.std.specs.BTreeMap.{BTreeMap}
 use Rattle.std.specs.List.{IsDistinct, filter_map, slice_get}
@@ -15,7 +16,7 @@ present ps = filter_map (λ (o : Option (Record RData)). o) ps
 
 -- an index that there is, is that of the places
 abbrev pub IsIndexed : Option (BTreeMap (Vec ℕ Global) ℕ) → List (Option (Record RData)) → Type 0
-IsIndexed index ps = IfSome index (λ m. IsPlaceIndex (place_at m) (λ i r. slice_get ps i ≡ Some (Some r)))
+IsIndexed index ps = IfSome index (λ m. IsPlaceIndex (indexed_at m) (λ i r. slice_get ps i ≡ Some (Some r)))
 
 -- no two records have equal data, and an index that there is, is that of their places
 pub record IsPlaced (index : Option (BTreeMap (Vec ℕ Global) ℕ)) (ps : List (Option (Record RData)))

@@ -1,7 +1,7 @@
 -- What goes into a record set, and what comes out (RFC 2136, 1.1.5, 3.4.2.2 and 3.4.2.4).
 use Rattle.std.specs.Prelude.{ℕ, Bool, true, false, not, List, [], ◌∷◌, ◌++◌, ◌≡◌, ◌≤◌, ◌&&◌, ◌||◌, ◌⊎◌, nat_eq, nat_le}
 use Rattle.std.specs.Prelude.{length, set, if◌then◌else◌, Option}
-use Rattle.std.specs.List.{filter, find, list_any}
+use Rattle.std.specs.List.{filter, find, fold, list_any}
 use Rattle.base.specs.names.NameOrder.{same_name}
 use Rattle.base.specs.declared.dns_class.DNSClass.TheVariants as classes
 use Rattle.base.specs.declared.record_type.RecordType.{RecordType}
@@ -50,6 +50,10 @@ stays (x ∷ xs) new = not (is_later x.rdata new)
 -- whether a record has the data of r
 abbrev pub has_data_of : Record RData → Record RData → Bool
 has_data_of r x = same_data x.rdata r.rdata
+
+-- the records without those that have the data of r
+abbrev pub without : Record RData → List (Record RData) → List (Record RData)
+without r xs = filter (λ x. not (has_data_of r x)) xs
 
 -- r in the place of each record of equal data
 abbrev pub replaced : Record RData → List (Record RData) → List (Record RData)
@@ -124,10 +128,25 @@ remove set r serial =
     then (false, set)
     else (
       true,
-      record set { records = filter (λ x. not (has_data_of r x)) set.records; serial = serial },
+      record set { records = without r set.records; serial = serial },
     )
 
 -- records with others set at their places, one after the other
 abbrev pub renewed : List (ℕ × Record RData) → List (Record RData) → List (Record RData)
 renewed [] xs = xs
 renewed (p ∷ ps) xs = renewed ps (set xs p.0 p.1)
+
+-- ---- what updates of a zone make of a set
+
+-- the TTL of the last of these records, 0 of none
+abbrev pub last_ttl : List (Record RData) → ℕ
+last_ttl rs = fold (λ ttl (r : Record RData). r.ttl) 0 rs
+
+-- the set with these records and the TTL of the last
+abbrev pub with_records : SetValue → List (Record RData) → SetValue
+with_records s xs = record s { records = xs; ttl = last_ttl xs }
+
+-- the set without the records that have the data of r; where none has, it stays as it is
+abbrev pub without_data : Record RData → SetValue → SetValue
+without_data r s =
+    if list_any (has_data_of r) s.records then with_records s (without r s.records) else s

@@ -144,7 +144,7 @@ fn call_on(
             set.renew(entry.clone()?)?;
             Ok(true)
         }
-        Call::Part => Ok(set.take_data(&[entry.clone()?])?),
+        Call::Part => Ok(set.take_data(entry)),
     }
 }
 

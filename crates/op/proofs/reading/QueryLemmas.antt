@@ -1,10 +1,9 @@
 -- Questions that stand are questions that are read.
-use Rattle.std.proofs.Common.{◌≡◌, ℕ, ◌+◌, ◌%◌, ◌<◌, Bool, true, false, List, refl, ap, sym, ◌∙◌, subst, arith, inl}
+use Rattle.std.proofs.Common.{◌≡◌, ℕ, ◌+◌, Bool, true, List, refl, ap, sym, ◌∙◌, subst, arith, inl}
 use Rattle.std.proofs.Common.{inr, Result, Ok, Err}
 use Rattle.std.specs.Prelude.{◌↔◌}
 use Rattle.std.specs.Int.{w16}
-use Rattle.std.proofs.lemmas.Bool.{le-leb, lt-leb}
-use Rattle.base.specs.DNSClass.{class_field, class_number, class_of, field_class, field_top}
+use Rattle.base.specs.DNSClass.{class_number, field_class, field_top}
 use Rattle.base.specs.names.Labels.{NameValue}
 use Rattle.base.specs.reading.Names.{name_at}
 use Rattle.base.specs.reading.Reading.{Read, number_at}
@@ -17,6 +16,7 @@ use Rattle.base.specs.declared.record_type.RecordType.{RecordType}
 use Rattle.base.proofs.reading.ReadLemmas.{bind_ok, bind_err, number_is, number_again, number_short}
 use Rattle.base.proofs.reading.ReadingLemmas.{name_is, name_fault, name_again, fault_again}
 use Rattle.base_data.proofs.Tells.{same_ok}
+use Rattle.rr.proofs.ReadRecords.{class_kept, top_kept}
 use Rattle.op.specs.Query.{FitsQuery, IsQueryAt, IsQueryFault, IsRawQueryAt, RawQuery, query_at, query_value, raw_query}
 use Rattle.op.specs.declared.query.Query.{Query}
 
@@ -139,19 +139,6 @@ fails B i f (Err g) is (inr (name, m, stands, short, fault)) =
 
 pub refuses_question : (B : List ℕ) (i : ℕ) (f : DecodeError) → (query_at B i ≡ Err f) ↔ IsQueryFault B i f
 refuses_question B i f = (query_fault B i f, fails B i f (query_at B i) refl)
-
--- the class field of a class number that leaves the top bit free
-class_kept : (top : Bool) (n : ℕ) → n < 32768 → field_class (class_field top n) ≡ class_of n
-class_kept true n narrow =
-    let e : (32768 + n % 32768) % 32768 ≡ n = omega arith in
-    ap class_of e
-class_kept false n narrow =
-    let e : n % 32768 ≡ n = omega arith in
-    ap class_of e
-
-top_kept : (top : Bool) (n : ℕ) → n < 32768 → field_top (class_field top n) ≡ top
-top_kept true n narrow = le-leb 32768 (32768 + n % 32768) (omega arith)
-top_kept false n narrow = lt-leb 32768 n narrow
 
 pub question_same : (q : Query) → FitsQuery q → query_value (raw_query q) ≡ q
 question_same q fits =

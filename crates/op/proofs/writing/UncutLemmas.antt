@@ -36,7 +36,7 @@ ttl_small B i n small w =
 
 -- ---- fronts of which nothing is lost
 
-whole_of : {X : Type 0} (xs kept lost : List X) → xs ≡ kept ++ lost → lost ≡ [] → kept ≡ xs
+pub whole_of : {X : Type 0} (xs kept lost : List X) → xs ≡ kept ++ lost → lost ≡ [] → kept ≡ xs
 whole_of xs kept lost front none = sym (front ∙ ap (λ ys. kept ++ ys) none ∙ append-nil kept)
 
 listed_same : {X : Type 0} (o p : Option X) → as_list o ≡ as_list p → o ≡ p

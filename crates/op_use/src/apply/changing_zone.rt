@@ -6,11 +6,10 @@ ghost use Rattle.op_use.specs.HeldZone.{HeldZone};
 ghost use Rattle.op_use.specs.MapUpdates.{HoldsAt, LacksOwner, Opens};
 ghost use Rattle.op_use.specs.Zone.{is_owned};
 ghost use Rattle.rr.specs.Record.{record_key};
-ghost use Rattle.rr.specs.SetChanges.{joined};
-ghost use Rattle.rr.specs.SetUpdates.{without};
+ghost use Rattle.rr.specs.SetChanges.{joined, without};
 ghost use Rattle.std.specs.BTreeMap.{keys};
 ghost use Rattle.std.specs.List.{filter};
-ghost use Rattle.std.specs.Prelude.{IfOk, OnOk, [], length, ◌∷◌, ◌≡◌};
+ghost use Rattle.std.specs.Prelude.{IfOk, OnOk, [], length, ◌≡◌};
 
 use crate::apply::current_set::CurrentSet;
 use crate::apply::rules::is_guarded;
@@ -99,8 +98,8 @@ impl<'a> ChangingZone<'a> {
     pub(super) fn take_data(&mut self, entry: &Record) -> Result<(), AllocError>
         ensures { OnOk result
             (HoldsAt (record_key entry.now)
-            (without (entry.now ∷ []) (records_at self.old.sets (record_key entry.now)))
-            self.old self.new) }
+            (without entry.now (records_at self.old.sets (record_key entry.now))) self.old
+            self.new) }
     {
         let key = record_key(entry)?;
         let Some(set) = self.sets.remove(&key) else {

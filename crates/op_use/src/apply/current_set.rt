@@ -3,18 +3,16 @@
 ghost use Rattle.base_data.specs.SameData.{same_data};
 ghost use Rattle.base_data.specs.declared.rdata.RData.{RData};
 ghost use Rattle.op_use.specs.CurrentSets.{open_set, renewed_set, set_without};
-ghost use Rattle.rr.specs.SetChanges.{joined};
-ghost use Rattle.rr.specs.SetUpdates.{with_records, without_data};
+ghost use Rattle.rr.specs.SetChanges.{joined, with_records, without_data};
 ghost use Rattle.rr.specs.declared.record.Record.{Record as Entry};
 ghost use Rattle.std.specs.List.{IsDistinct};
 ghost use Rattle.std.specs.Ordering.{on};
-ghost use Rattle.std.specs.Prelude.{IfOk, IfSome, OnErr, OnOk, [], length, ◌∷◌, ◌≡◌};
+ghost use Rattle.std.specs.Prelude.{IfOk, IfSome, OnErr, OnOk, length, ◌≡◌};
 
 use base::DNSClass;
 use rr::{ChangingSet, Record, RecordSet};
 use std::alloc::AllocError;
 use std::marker::Model;
-use std::slice;
 
 /// A set of no more records is changed as a `RecordSet`.
 const FEW: usize = 24;
@@ -95,7 +93,7 @@ impl<'a> CurrentSet<'a> {
     /// The set without the data of a record. Without such data it stays as it is.
     pub(super) fn take_data(self, entry: &Record) -> Result<CurrentSet<'a>, AllocError>
         requires { IsDistinct (on (λ (r : Entry RData). r.rdata) same_data) self.records }
-        ensures { IfOk result (λ s. s ≡ without_data (entry.now ∷ []) self.entry) }
+        ensures { IfOk result (λ s. s ≡ without_data entry.now self.entry) }
     {
         let open = self.open()?.take_data(entry)?;
         Ok(CurrentSet {
@@ -168,14 +166,11 @@ impl OpenSet {
 
     /// The set without the data of a record. Without such data it stays as it is.
     fn take_data(self, entry: &Record) -> Result<OpenSet, AllocError>
-        ensures { IfOk result (λ s. open_set s
-            ≡ without_data (entry.now ∷ []) (open_set self)) }
+        ensures { IfOk result (λ s. open_set s ≡ without_data entry.now (open_set self)) }
     {
         match self {
             OpenSet::Few(mut set) => {
-                let Ok(_) = set.take_data(slice::from_ref(entry)) else {
-                    return Err(AllocError);
-                };
+                let _ = set.take_data(entry);
                 Ok(OpenSet::Few(set))
             }
             OpenSet::Many(mut set) => {

@@ -3,12 +3,11 @@
 ghost use Rattle.base.specs.writing.Wire.{IsMemory};
 ghost use Rattle.rr.specs.DataIndex.{IsFirstAt};
 ghost use Rattle.rr.specs.SerialOrder.{is_greater};
-ghost use Rattle.rr.specs.SetChanges.{MayAdd, MayEnter, MayLeave, add_data, first_of, has_data_of, holds_one, insert, is_kept, joined, put_in_set, remove, stays};
-ghost use Rattle.rr.specs.SetUpdates.{has_data_of_one, with_records, without_data};
+ghost use Rattle.rr.specs.SetChanges.{MayAdd, MayEnter, MayLeave, add_data, first_of, has_data_of, holds_one, insert, is_kept, joined, put_in_set, remove, stays, with_records, without_data};
 ghost use Rattle.rr.specs.contracts.rr_set.RecordSet.{the_row};
 ghost use Rattle.std.specs.Borrow.{follows_so, sem};
 ghost use Rattle.std.specs.List.{list_any};
-ghost use Rattle.std.specs.Prelude.{IfOk, IfSome, IsTrue, OnErr, OnOk, is_ok, length, option_map, true, ⊤, ◌≡◌, ◌≤◌};
+ghost use Rattle.std.specs.Prelude.{IfOk, IfSome, OnErr, OnOk, length, option_map, true, ⊤, ◌≡◌, ◌≤◌};
 ghost use mathlib.Core.Option.{none};
 
 use crate::record::Record;
@@ -237,28 +236,21 @@ impl RecordSet {
         Ok(())
     }
 
-    /// Takes out every record with the data of one of these, of any type and number (RFC 2136, 3.4.2.4), and answers
-    /// whether any went. If so, the set then has the TTL of its last record, 0 without records; else it stays as it is.
+    /// Takes out every record with the data of this one, whatever its type (RFC 2136, 3.4.2.4), and answers whether any
+    /// went. If so, the set then has the TTL of its last record, 0 without records; else it stays as it is. Takes no
+    /// memory.
     ///
-    /// # Errors
-    ///
-    /// `Memory` if memory runs out; the set is then as it was. It takes none for one record.
-    pub fn take_data(&mut self, entries: &[Record]) -> Result<bool, ProtoError>
-        ensures went { IfOk result (λ went. went
-            ≡ list_any (has_data_of_one entries.now) self.old.records) }
-        ensures ok { OnOk result (self.new ≡ without_data entries.now self.old) }
-        ensures err { OnErr result (self.new ≡ self.old) }
-        // One record takes no memory, and so is never refused.
-        ensures one { length entries.now ≡ 1 → IsTrue (is_ok result) }
-        // A refusal is `Memory`.
-        ensures memory { IsMemory result }
+    /// It looks at every record; to take out the data of many, `ChangingSet` finds each by its index.
+    pub fn take_data(&mut self, entry: &Record) -> bool
+        ensures went { result ≡ list_any (has_data_of entry.now) self.old.records }
+        ensures set { self.new ≡ without_data entry.now self.old }
     {
-        let went = self.records.take_all(entries)?;
-        if !went {
-            return Ok(false);
+        if !has_data(self.records.as_slice(), entry) {
+            return false;
         }
+        self.records.take_data(entry);
         self.take_last_ttl();
-        Ok(true)
+        true
     }
 
     /// Takes over the TTL of the last record, 0 without records.

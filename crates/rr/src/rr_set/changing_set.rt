@@ -3,12 +3,11 @@
 ghost use Rattle.base_data.specs.SameData.{same_data};
 ghost use Rattle.base_data.specs.declared.rdata.RData.{RData};
 ghost use Rattle.rr.specs.RecordSet.{SetValue};
-ghost use Rattle.rr.specs.SetChanges.{joined};
-ghost use Rattle.rr.specs.SetUpdates.{last_ttl, with_records, without_data};
+ghost use Rattle.rr.specs.SetChanges.{joined, last_ttl, with_records, without_data};
 ghost use Rattle.rr.specs.declared.record.Record.{Record as Entry};
 ghost use Rattle.std.specs.List.{IsDistinct};
 ghost use Rattle.std.specs.Ordering.{on};
-ghost use Rattle.std.specs.Prelude.{IfOk, OnErr, OnOk, [], cond, length, ◌∷◌, ◌≡◌};
+ghost use Rattle.std.specs.Prelude.{IfOk, OnErr, OnOk, cond, length, ◌≡◌};
 
 use crate::record::Record;
 use crate::rr_set::RecordSet;
@@ -17,8 +16,8 @@ use crate::rr_set::placed_records::PlacedRecords;
 use std::alloc::AllocError;
 use std::marker::Model;
 
-/// A record set while it is changed often: `RecordSet` looks at all of its records for each change, and this one finds
-/// the record that it changes.
+/// A record set while it is changed often, as where many records are to be taken out: `RecordSet` looks at all of its
+/// records for each change, and this one finds the record that it changes by an index.
 pub struct ChangingSet {
     /// The set, without records.
     set: RecordSet,
@@ -29,7 +28,7 @@ pub struct ChangingSet {
 
 impl Model for ChangingSet {
     ghost use Rattle.rr.specs.RecordSet.{SetValue};
-    ghost use Rattle.rr.specs.SetUpdates.{last_ttl};
+    ghost use Rattle.rr.specs.SetChanges.{last_ttl};
     ghost use Rattle.std.specs.Prelude.{cond};
 
     ghost Value = { SetValue };
@@ -100,7 +99,7 @@ impl ChangingSet {
     ///
     /// If memory runs out; the set is then as it was.
     pub fn take_data(&mut self, entry: &Record) -> Result<(), AllocError>
-        ensures ok { OnOk result (self.new ≡ without_data (entry.now ∷ []) self.old) }
+        ensures ok { OnOk result (self.new ≡ without_data entry.now self.old) }
         ensures err { OnErr result (self.new ≡ self.old) }
     {
         if self.records.take_data(entry)? {

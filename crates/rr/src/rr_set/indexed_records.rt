@@ -2,17 +2,17 @@
 
 ghost use Rattle.base_data.specs.Kinds.{canonical_data};
 ghost use Rattle.base_data.specs.declared.rdata.RData.{RData};
-ghost use Rattle.rr.specs.DataIndex.{IsCurrent, IsFirstAt, IsIndexOf, IsOnlyAt, IsPlaceFor, place_at};
-ghost use Rattle.rr.specs.SetChanges.{entered, has_data_of, joined};
-ghost use Rattle.rr.specs.SetUpdates.{has_data_of_one, without};
+ghost use Rattle.base.specs.Keys.{indexed_at};
+ghost use Rattle.rr.specs.DataIndex.{IsCurrent, IsFirstAt, IsIndexOf, IsOnlyAt, IsPlaceFor};
+ghost use Rattle.rr.specs.SetChanges.{entered, has_data_of, joined, without};
 ghost use Rattle.rr.specs.declared.record.Record.{Record as Entry};
 ghost use Rattle.std.specs.List.{list_any};
-ghost use Rattle.std.specs.Prelude.{IfNone, IfOk, IfSome, IsTrue, List, MatchOption, OnErr, OnOk, [], false, filter, is_ok, length, map, not, vec_capacity, ◌<◌, ◌∷◌, ◌≡◌, ◌≤◌};
+ghost use Rattle.std.specs.Prelude.{IfNone, IfOk, IfSome, List, MatchOption, OnErr, OnOk, [], false, length, map, vec_capacity, ◌<◌, ◌∷◌, ◌≡◌, ◌≤◌};
 
 use crate::record::Record;
 use crate::rr_set::data_index::{DataIndex, data_key};
 use crate::rr_set::scanning::{
-    enter, is_entry, join, put_alone, set_at, set_classes, set_ttls, take_all, take_data,
+    enter, is_entry, join, put_alone, set_at, set_classes, set_ttls, take_data,
 };
 use base::DNSClass;
 use base_data::RData;
@@ -127,28 +127,10 @@ impl IndexedRecords {
 
     /// Takes out the records with the data of this one. Takes no memory.
     pub(super) fn take_data(&mut self, entry: &Record)
-        ensures { self.new ≡ filter (λ x. not (has_data_of entry.now x)) self.old }
+        ensures { self.new ≡ without entry.now self.old }
     {
         self.index = Index::Missing { scans: 0 }; // Places move.
         take_data(&mut self.records, entry);
-    }
-
-    /// Takes out the records with the data of one of these, and answers whether any went.
-    pub(super) fn take_all(&mut self, entries: &[Record]) -> Result<bool, AllocError>
-        ensures went { IfOk result (λ went. went
-            ≡ list_any (has_data_of_one entries.now) self.old) }
-        ensures ok { OnOk result (self.new ≡ without entries.now self.old) }
-        ensures err { OnErr result (self.new ≡ self.old) }
-        // One record takes no memory, and so is never refused.
-        ensures one { length entries.now ≡ 1 → IsTrue (is_ok result) }
-    {
-        let count = self.records.len();
-        take_all(&mut self.records, entries)?;
-        if self.records.len() == count {
-            return Ok(false);
-        }
-        self.index = Index::Missing { scans: 0 };
-        Ok(true)
     }
 
     /// Sets the class of each record. Takes no memory.
@@ -175,7 +157,7 @@ impl Index {
         // An index that is answered has the place of each of these records.
         ensures index { IfOk result
             (λ index. IfSome index
-            (λ places. IsIndexOf (place_at places.value) records.now.items)) }
+            (λ places. IsIndexOf (indexed_at places.value) records.now.items)) }
         // None is left, so that the records may change.
         ensures missing { (rs : List (Entry RData)) → IsCurrent self.new rs }
     {
@@ -223,7 +205,7 @@ impl fmt::Debug for IndexedRecords {
 fn index_of(records: &Vec<Record>) -> Result<Option<Box<DataIndex>>, AllocError>
     // An index that is answered has the place of each of these records.
     ensures index { IfOk result
-        (λ index. IfSome index (λ places. IsIndexOf (place_at places.value) records.now.items)) }
+        (λ index. IfSome index (λ places. IsIndexOf (indexed_at places.value) records.now.items)) }
 {
     let alloc = *records.allocator();
     let mut places = BTreeMap::new(alloc);
@@ -238,7 +220,7 @@ fn index_of(records: &Vec<Record>) -> Result<Option<Box<DataIndex>>, AllocError>
 
 /// The place of the record with the data of this one, whose canonical form is the key.
 fn place_of(places: &DataIndex, records: &Vec<Record>, key: &[u8], entry: &Record) -> Option<usize>
-    requires indexed { IsIndexOf (place_at places.now) records.now.items }
+    requires indexed { IsIndexOf (indexed_at places.now) records.now.items }
     requires key { key.now ≡ canonical_data entry.now.rdata }
     ensures { MatchOption result (list_any (has_data_of entry.now) records.now.items
         ≡ false) (IsOnlyAt entry.now.rdata records.now.items) }

@@ -3,8 +3,7 @@
 ghost use Rattle.base_data.specs.Kinds.{canonical_data};
 ghost use Rattle.base_data.specs.declared.rdata.RData.{RData};
 ghost use Rattle.rr.specs.PlacedRecords.{IsIn, IsIndexed, IsPlaced, present};
-ghost use Rattle.rr.specs.SetChanges.{has_data_of, joined};
-ghost use Rattle.rr.specs.SetUpdates.{has_data_of_one, without};
+ghost use Rattle.rr.specs.SetChanges.{has_data_of, joined, without};
 ghost use Rattle.rr.specs.declared.record.Record.{Record as Entry};
 ghost use Rattle.std.specs.List.{list_any};
 ghost use Rattle.std.specs.Prelude.{IfOk, List, MatchOption, None, OnErr, OnOk, Option, Some, [], false, length, set, ℕ, ◌++◌, ◌<◌, ◌∷◌, ◌≡◌};
@@ -78,8 +77,8 @@ impl PlacedRecords {
     /// Takes out the record with the data of this one, and answers whether it was there.
     pub(super) fn take_data(&mut self, entry: &Record) -> Result<bool, AllocError>
         ensures went { IfOk result (λ went. went
-            ≡ list_any (has_data_of_one (entry.now ∷ [])) self.old) }
-        ensures ok { OnOk result (self.new ≡ without (entry.now ∷ []) self.old) }
+            ≡ list_any (has_data_of entry.now) self.old) }
+        ensures ok { OnOk result (self.new ≡ without entry.now self.old) }
         ensures err { OnErr result (self.new ≡ self.old) }
     {
         let key = data_key(&entry.rdata, *self.places.allocator())?;

@@ -3,17 +3,14 @@
 ghost use Rattle.base_data.specs.SameData.{same_data};
 ghost use Rattle.base_data.specs.declared.rdata.RData.{RData};
 ghost use Rattle.rr.specs.RecordSet.{same_entry};
-ghost use Rattle.rr.specs.SetChanges.{entered, has_data_of, has_entry, joined, renewed, replaced};
-ghost use Rattle.rr.specs.SetUpdates.{without};
-ghost use Rattle.rr.specs.SortedData.{IsInOrder, IsSortedDataOf};
+ghost use Rattle.rr.specs.SetChanges.{entered, has_data_of, has_entry, joined, renewed, replaced, without};
 ghost use Rattle.rr.specs.declared.record.Record.{Record as Entry};
 ghost use Rattle.std.specs.List.{AllByRecursion, list_any};
-ghost use Rattle.std.specs.Prelude.{IfOk, IsTrue, OnErr, OnOk, [], filter, is_ok, length, map, nat_eq, not, set, true, ◌&&◌, ◌++◌, ◌<◌, ◌==◌, ◌∷◌, ◌≡◌, ◌≤◌};
+ghost use Rattle.std.specs.Prelude.{IfOk, OnErr, OnOk, [], length, map, nat_eq, not, set, true, ◌&&◌, ◌++◌, ◌<◌, ◌==◌, ◌∷◌, ◌≡◌, ◌≤◌};
 
 use crate::record::Record;
 use base::{DNSClass, RecordType};
-use base_data::RData;
-use std::alloc::{AllocError, Global};
+use std::alloc::AllocError;
 
 /// Puts a record among others, unless an equal one of its TTL is there, and answers whether it went in.
 pub(super) fn enter(records: &mut Vec<Record>, entry: Record) -> Result<bool, AllocError>
@@ -160,52 +157,9 @@ fn is_equal(known: &Record, entry: &Record) -> bool
 
 /// Takes out the records with the data of this one.
 pub(super) fn take_data(records: &mut Vec<Record>, entry: &Record)
-    ensures { records.new.items ≡ filter (λ x. not (has_data_of entry.now x)) records.old.items }
+    ensures { records.new.items ≡ without entry.now records.old.items }
 {
     records.retain(|known| known.rdata != entry.rdata);
-}
-
-/// Takes out the records with the data of one of these. All memory is taken before the first change.
-pub(super) fn take_all(records: &mut Vec<Record>, entries: &[Record]) -> Result<(), AllocError>
-    ensures ok { OnOk result (records.new.items ≡ without entries.now records.old.items) }
-    ensures err { OnErr result (records.new.items ≡ records.old.items) }
-    // One record takes no memory, and so is never refused.
-    ensures one { length entries.now ≡ 1 → IsTrue (is_ok result) }
-{
-    if let [entry] = entries {
-        take_data(records, entry);
-        return Ok(());
-    }
-    let data = sorted_data(entries, *records.allocator())?;
-    records.retain(|known| !has_equal(&data, &known.rdata));
-    Ok(())
-}
-
-/// The data of these records in the order of data.
-pub(super) fn sorted_data<'r>(
-    entries: &'r [Record],
-    alloc: Global,
-) -> Result<Vec<&'r RData>, AllocError>
-    ensures { IfOk result (λ sorted. IsSortedDataOf sorted.items entries.now) }
-{
-    let mut sorted = Vec::with_capacity(alloc, entries.len())?;
-    for entry in entries {
-        entry.rdata.fits();
-        sorted.push(&entry.rdata)?;
-    }
-    sorted.sort_unstable_by(|a, b| a.canonical_cmp(b));
-    Ok(sorted)
-}
-
-/// Whether equal data is among data in order.
-pub(super) fn has_equal(sorted: &[&RData], rdata: &RData) -> bool
-    requires { IsInOrder sorted.now }
-    ensures { result ≡ list_any (λ d. same_data rdata.now d.now) sorted.now }
-{
-    rdata.fits();
-    sorted
-        .binary_search_by(|known| known.canonical_cmp(rdata))
-        .is_ok()
 }
 
 /// Sets the class of each record.

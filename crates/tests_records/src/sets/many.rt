@@ -2,8 +2,8 @@
 
 use super::{Call, OWNER, call_on, records, set_of, shows};
 use crate::rows::{Datum, Row, is_row, record};
-use base::{DNSClass, ParseError, RecordType};
-use rr::RecordSet;
+use base::{DNSClass, Name, ParseError, RecordType};
+use rr::{ChangingSet, RecordSet};
 use std::alloc::{AllocError, Global};
 use std::test::Fail;
 
@@ -159,12 +159,13 @@ fn many_records_are_renewed(rt: HostRuntime) -> Result<(), Fail> {
     Ok(())
 }
 
-/// Takes the data of these rows out of the set at once, and tells whether it had any.
+/// Takes the data of these rows out of the set, and tells whether it had any.
 fn take_all(alloc: Global, set: &mut RecordSet, rows: &[Row]) -> Result<bool, Fail> {
-    let gone = records(alloc, rows)?;
-    let went = set.take_data(&gone);
-    drop(gone);
-    Ok(went?)
+    let mut went = false;
+    for entry in records(alloc, rows)? {
+        went = set.take_data(&entry) || went;
+    }
+    Ok(went)
 }
 
 /// Takes the addresses of a range out of a plain list, and tells whether any was there.
@@ -185,8 +186,7 @@ fn gone(alloc: Global, (from, to): (u16, u16)) -> Result<Vec<Row>, AllocError> {
     Ok(rows)
 }
 
-/// Takes the addresses of a range out of the set at once, and out of a plain list one by one: whether both answer alike
-/// and leave the same.
+/// Takes the addresses of a range out of the set, and out of a plain list: whether both answer alike and leave the same.
 fn part_alike(
     alloc: Global,
     set: &mut RecordSet,
@@ -233,9 +233,52 @@ fn taken_otherwise(alloc: Global) -> Result<Option<(u16, u16)>, Fail> {
 }
 
 #[test]
-fn many_are_taken_out_at_once(rt: HostRuntime) -> Result<(), Fail> {
+fn many_are_taken_out(rt: HostRuntime) -> Result<(), Fail> {
     let wrong = taken_otherwise(rt.alloc())?;
     assert!(rt; wrong.is_none(), "{wrong:?}");
+    Ok(())
+}
+
+/// A set of these records, open for many changes.
+fn opened(alloc: Global, rows: &[Row]) -> Result<ChangingSet, Fail> {
+    let name = Name::parse(alloc, OWNER, None)?;
+    let set = RecordSet::new(alloc, name, RecordType::A, 0);
+    let mut open = ChangingSet::open(&set)?;
+    for entry in records(alloc, rows)? {
+        open.renew(&entry)?;
+    }
+    Ok(open)
+}
+
+/// Takes the addresses of these ranges out of an open set and out of a plain list: whether after each as many are left,
+/// and in the end the same.
+fn open_parts_alike(
+    alloc: Global,
+    mut rows: Vec<Row>,
+    ranges: &[(u16, u16)],
+) -> Result<bool, Fail> {
+    let mut open = opened(alloc, &rows)?;
+    let mut right = true;
+    for &range in ranges {
+        for entry in records(alloc, &gone(alloc, range)?)? {
+            open.take_data(&entry)?;
+        }
+        take_range(&mut rows, range);
+        right = open.records_count() == rows.len() && right;
+    }
+    let set = open.close()?;
+    Ok(right && ends_as(alloc, &set, &rows)? && shows(alloc, &set, &rows)?)
+}
+
+#[test]
+fn many_are_taken_out_of_an_open_set(rt: HostRuntime) -> Result<(), Fail> {
+    for count in 0..RANGES.len() {
+        let rows = numbered(rt.alloc(), 2000)?;
+        assert!(rt;
+            open_parts_alike(rt.alloc(), rows, &RANGES[..=count])?,
+            "{count}"
+        );
+    }
     Ok(())
 }
 

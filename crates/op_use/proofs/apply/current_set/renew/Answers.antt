@@ -1,7 +1,6 @@
 use Rattle.op_use.proofs.apply.current_set.renew.Goals as goal
 use Rattle.rr.proofs.SetSteps.{same_clone}
-use Rattle.rr.specs.SetChanges.{joined}
-use Rattle.rr.specs.SetUpdates.{with_records}
+use Rattle.rr.specs.SetChanges.{joined, with_records}
 use Rattle.std.proofs.Common.{ap, ◌∙◌}
 
 pub returns-in_default-clause-err : goal.returns-in_default-clause-err

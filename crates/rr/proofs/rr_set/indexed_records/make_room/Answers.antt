@@ -4,7 +4,8 @@ use Rattle.std.specs.BTreeMap.{BTreeMap}
 use Rattle.std.specs.Prelude.{Vec}
 use Rattle.std.specs.declared.alloc.Global.{Global}
 use Rattle.base_data.specs.declared.rdata.RData.{RData}
-use Rattle.rr.specs.DataIndex.{IsIndexOf, place_at}
+use Rattle.base.specs.Keys.{indexed_at}
+use Rattle.rr.specs.DataIndex.{IsIndexOf}
 use Rattle.rr.specs.declared.record.Record.{Record}
 use Rattle.rr.proofs.Around.{joined_after}
 use Rattle.rr.proofs.IndexLemmas.{index_set, index_wider, joined_at, none_of, place_here}
@@ -16,8 +17,8 @@ returns-in-Some-place_of-clause-joined c =
     let rs = c.args.records.now.items in
     let r : Record RData = c.args.entry.now in
     let p = c.in-Some-place_of.place in
-    let find = place_at c.in-Some.places.value in
-    let indexed : IsIndexOf (place_at c.in-Some.places.value) c.args.records.now.items = search rules in
+    let find = indexed_at c.in-Some.places.value in
+    let indexed : IsIndexOf (indexed_at c.in-Some.places.value) c.args.records.now.items = search rules in
     subst (λ (ys : List (Record RData)). IsIndexOf find ys) (joined_at r rs p c.in-Some-place_of.ensures)
     (index_set find rs p r indexed c.in-Some-place_of.ensures)
 
@@ -27,11 +28,11 @@ returns-then-is_none-clause-index c =
     let m = c.deref_mut.result.now in
     let n = c.insert.new.self in
     let ks = c.in_ok-key.key.items in
-    let there : IsIndexOf (place_at c.in-Some.places.value) c.args.records.now.items = search rules in
-    let indexed = subst (λ (t : BTreeMap (Vec ℕ Global) ℕ). IsIndexOf (place_at t) rs)
+    let there : IsIndexOf (indexed_at c.in-Some.places.value) c.args.records.now.items = search rules in
+    let indexed = subst (λ (t : BTreeMap (Vec ℕ Global) ℕ). IsIndexOf (indexed_at t) rs)
     (sym c.deref_mut.ensures.value) there in
     let free = none_of c.in_ok-insert.field-0 (c.is_none.ensures ∙ ap not c.if-is_none.true) in
-    index_wider (place_at m) (place_at n) _ ks indexed (sym c.in_ok-insert.ensures.old ∙ free)
+    index_wider (indexed_at m) (indexed_at n) _ ks indexed (sym c.in_ok-insert.ensures.old ∙ free)
     (place_others ks m n _ c.in_ok-insert.ensures.updates)
 
 pub returns-then-is_none-clause-joined : goal.returns-then-is_none-clause-joined
@@ -42,8 +43,8 @@ returns-then-is_none-clause-joined c =
     let n = c.insert.new.self in
     let ks = c.in_ok-key.key.items in
     let updates = c.in_ok-insert.ensures.updates in
-    let there : IsIndexOf (place_at c.in-Some.places.value) c.args.records.now.items = search rules in
-    let indexed = subst (λ (t : BTreeMap (Vec ℕ Global) ℕ). IsIndexOf (place_at t) rs)
+    let there : IsIndexOf (indexed_at c.in-Some.places.value) c.args.records.now.items = search rules in
+    let indexed = subst (λ (t : BTreeMap (Vec ℕ Global) ℕ). IsIndexOf (indexed_at t) rs)
     (sym c.deref_mut.ensures.value) there in
     let free = none_of c.in_ok-insert.field-0 (c.is_none.ensures ∙ ap not c.if-is_none.true) in
     let len : c.len-place.result ≡ length c.args.records.now.items = search rules in

@@ -3,7 +3,7 @@ use Rattle.base_data.specs.SameData.{same_data}
 use Rattle.base_data.specs.declared.rdata.RData.{RData}
 use Rattle.rr.proofs.PlacedLemmas.{Places, not_in, nowhere}
 use Rattle.rr.proofs.rr_set.placed_records.place_of.Goals as goal
-use Rattle.rr.specs.DataIndex.{place_at}
+use Rattle.base.specs.Keys.{indexed_at}
 use Rattle.rr.specs.declared.record.Record.{Record}
 use Rattle.std.proofs.Common.{None, Some, ap, refl, rules, sym, ◌∙◌, ◌≡◌}
 use Rattle.std.proofs.lemmas.Bool.{not-false, not-true}
@@ -12,13 +12,13 @@ use Rattle.std.specs.List.{slice_get}
 
 pub returns-in_err-place : goal.returns-in_err-place
 returns-in_err-place c =
-    let find = place_at c.in-Some.index in
+    let find = indexed_at c.in-Some.index in
     rw c.from_residual.ensures (nowhere find c.args.places.now.items c.args.entry.now
     (rw c.in-Some.is at c.requires.placed.indexed) (c.in_err-place.ensures.value ∙ ap find c.requires.key))
 
 pub returns-in_default-get : goal.returns-in_default-get
 returns-in_default-get c =
-    let find = place_at c.in-Some.index in
+    let find = indexed_at c.in-Some.index in
     let p = c.in_ok-place.field-0.now in
     let looked = rw c.in_default-get.is at c.get-2.ensures.lookup in
     let none : c.in_default-get.field-0.now ≡ None = search rules in
@@ -30,7 +30,7 @@ returns-in_default-get c =
 
 pub returns-in_default-get-2 : goal.returns-in_default-get-2
 returns-in_default-get-2 c =
-    let find = place_at c.in-Some.index in
+    let find = indexed_at c.in-Some.index in
     let p = c.in_ok-place.field-0.now in
     let past = (rw c.in_default-get.is at c.get-2.ensures.lookup).3 in
     let none = ap (λ (ps : Places). slice_get ps p) (sym c.deref.ensures.value)
@@ -41,7 +41,7 @@ returns-in_default-get-2 c =
 
 pub returns-then-ne : goal.returns-then-ne
 returns-then-ne c =
-    let find = place_at c.in-Some.index in
+    let find = indexed_at c.in-Some.index in
     let p = c.in_ok-place.field-0.now in
     let looked = c.in-Some-Some.ensures.lookup in
     let here = ap (λ (ps : Places). slice_get ps p) (sym c.deref.ensures.value)

@@ -2,7 +2,9 @@ use Rattle.std.proofs.Common.{◌≡◌, ◌<◌, ◌∙◌, ap, arith, length, 
 use Rattle.base_data.specs.declared.rdata.RData.{RData}
 use Rattle.rr.specs.declared.record.Record.{Record}
 use Rattle.std.specs.List.{AllByRecursion}
-use Rattle.rr.proofs.SetSteps.{len_step, renew_end, renew_step, within_first, within_step}
+use Rattle.rr.proofs.SetSteps.{len_step, renew_end}
+use Rattle.std.proofs.lemmas.List.{length-set}
+use Rattle.std.specs.Vec.Iter.{into_iter_items}
 use Rattle.rr.specs.SetChanges.{renewed}
 use Rattle.rr.proofs.rr_set.scanning.renew.Goals as goal
 
@@ -16,17 +18,20 @@ loop-place-init c =
     )
 
 pub set_at-requires : goal.set_at-requires
-set_at-requires c = within_first _ _ _ (c.in-Some.place, c.in-Some.copy) c.in-Some.ensures.steps.0
-    c.loop-place.invariant.1
+set_at-requires c = (subst (AllByRecursion (λ q. q.0 < length c.loop-place.records.items)) c.in-Some.ensures.steps.0
+    c.loop-place.invariant.1).0
 
 pub loop-place-preserved : goal.loop-place-preserved
 loop-place-preserved c =
-    let p : ℕ × Record RData = (c.in-Some.place, c.in-Some.copy) in
+    let xs = c.loop-place.records.items in
+    let rest = into_iter_items c.next.new.self in
     let first = c.in-Some.ensures.steps in
     let loop = c.loop-place.invariant in (
-      renew_step c.loop-place.records.items _ _ _ _ p first.0 c.set_at.ensures loop.0,
-      within_step c.loop-place.records.items _ _ _ p first.0 c.set_at.ensures loop.1,
-      len_step _ _ _ _ p first.0 first.1 loop.2,
+      ap (renewed rest) c.set_at.ensures ∙ ap (λ ps. renewed ps xs) (sym first.0) ∙ loop.0,
+      subst (λ n. AllByRecursion (λ (q : ℕ × Record RData). q.0 < n) rest)
+          (sym (ap length c.set_at.ensures ∙ length-set xs c.in-Some.place c.in-Some.copy))
+          (subst (AllByRecursion (λ q. q.0 < length xs)) first.0 loop.1).1,
+      len_step _ _ _ _ (c.in-Some.place, c.in-Some.copy) first.0 first.1 loop.2,
     )
 
 pub returns : goal.returns

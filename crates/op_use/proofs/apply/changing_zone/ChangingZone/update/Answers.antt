@@ -10,7 +10,7 @@ use Rattle.op_use.specs.HeldZone.{HeldZone}
 use Rattle.op_use.specs.Outcome.{each}
 use Rattle.op_use.specs.MapUpdates.{IsUpdated, use_value}
 use Rattle.op_use.specs.Server.{use_of}
-use Rattle.rr.specs.SetUpdates.{without}
+use Rattle.rr.specs.SetChanges.{without}
 use Rattle.std.proofs.Common.{[], ap, false, not, refl, subst, sym, take, ◌∙◌, ◌∷◌}
 use Rattle.std.proofs.lemmas.Result.{err_from_is_err_and}
 
@@ -28,12 +28,12 @@ loop-entry-preserved c =
           (sym w.self-is) w.in_ok-delete-in-OfAny.ensures
       | in-OfNone+in_ok-is_needed-in-OfNone+then-not-branch+in_ok-take_data-in-OfNone w ↦ subst
           (λ (x : HeldZone). IsUpdated (r ∷ []) y x) (sym w.self-is)
-          (moves_so y _ r (without (r ∷ [])) _ (takes y.origin y.class y.sets r
+          (moves_so y _ r (without r) _ (takes y.origin y.class y.sets r
           (ap (λ (x : HeldZone). use_of x.class r.dns_class) (sym c.self.view_is) ∙ sym c.use_of.ensures
           ∙ ap use_value w.in-OfNone.is))
           (ap not (sym w.in_ok-is_needed-in-OfNone.ensures ∙ w.if-not-branch.true)) w.in_ok-take_data-in-OfNone.ensures)
       | in-OfNone+in_ok-is_needed-in-OfNone+else-not-branch w ↦ subst (λ (x : HeldZone). IsUpdated (r ∷ []) y x)
-          (sym w.self-is) (stays_so y r (without (r ∷ [])) _ (takes y.origin y.class y.sets r
+          (sym w.self-is) (stays_so y r (without r) _ (takes y.origin y.class y.sets r
           (ap (λ (x : HeldZone). use_of x.class r.dns_class) (sym c.self.view_is) ∙ sym c.use_of.ensures
           ∙ ap use_value w.in-OfNone.is))
           (ap not (sym w.in_ok-is_needed-in-OfNone.ensures ∙ w.if-not-branch.false)))

@@ -1,10 +1,11 @@
 use Rattle.base_data.specs.declared.rdata.RData.{RData}
-use Rattle.rr.proofs.WithoutSteps.{set_stays, without_none}
+use Rattle.rr.proofs.SetSteps.{without_none}
 use Rattle.rr.proofs.rr_set.changing_set.ChangingSet.take_data.Goals as goal
 use Rattle.rr.specs.RecordSet.{SetValue}
-use Rattle.rr.specs.SetUpdates.{last_ttl, without_data}
+use Rattle.rr.specs.SetChanges.{last_ttl, without_data}
 use Rattle.rr.specs.declared.record.Record.{Record}
-use Rattle.std.proofs.Common.{List, [], ap, cond, sym, ◌∙◌, ◌∷◌}
+use Rattle.std.proofs.Common.{List, ap, cond, sym, ◌∙◌}
+use Rattle.std.proofs.lemmas.Bool.{cond-false}
 
 pub returns-else-branch-clause-ok : goal.returns-else-branch-clause-ok
 returns-else-branch-clause-ok c =
@@ -15,6 +16,5 @@ returns-else-branch-clause-ok c =
           cond c.self.inside.is_changed (last_ttl rs) c.self.inside.set.ttl;
     } in
     let none = sym c.in_ok-take_data.ensures.went ∙ c.if-branch.false in
-    let entries = c.args.entry.now ∷ [] in
-    ap of (c.in_ok-take_data.ensures.ok ∙ without_none entries c.self.inside.records none)
-    ∙ sym (set_stays entries (of c.self.inside.records) none) ∙ ap (without_data entries) c.self.view_is
+    ap of (c.in_ok-take_data.ensures.ok ∙ without_none c.args.entry.now c.self.inside.records none)
+    ∙ sym (cond-false _ _ _ none) ∙ ap (without_data c.args.entry.now) c.self.view_is

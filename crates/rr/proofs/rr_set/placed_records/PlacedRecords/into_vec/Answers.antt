@@ -6,24 +6,7 @@ use Rattle.rr.specs.PlacedRecords.{present}
 use Rattle.rr.specs.declared.record.Record.{Record}
 use Rattle.std.proofs.Common.{List, [], ap, append_assoc, arith, length, sym, ℕ, ◌++◌, ◌∙◌, ◌∷◌, ◌≡◌}
 use Rattle.std.proofs.lemmas.List.{append-nil}
-use Rattle.std.specs.Prelude.{None, Option, Some}
-
--- all places are left
-none_yet : (xs zs : List (Record RData)) (ps qs : Places) → xs ≡ [] → ps ≡ qs → present qs ≡ zs → xs ++ present ps ≡ zs
-none_yet xs zs ps qs none all h = ap (λ (us : List (Record RData)). us ++ present ps) none ∙ ap present all ∙ h
-
--- the next place has this record, or none
-next_some : (xs new zs : List (Record RData)) (ps qs : Places) (o : Option (Record RData)) (r : Record RData)
-    → ps ≡ o ∷ qs → o ≡ Some r → new ≡ xs ++ r ∷ []
-    → xs ++ present ps ≡ zs → new ++ present qs ≡ zs
-next_some xs new zs ps qs o r first is pushed h =
-    ap (λ (us : List (Record RData)). us ++ present qs) pushed ∙ append_assoc xs (r ∷ []) (present qs)
-    ∙ ap (λ (us : Places). xs ++ present us) (sym (first ∙ ap (λ (p : Option (Record RData)). p ∷ qs) is)) ∙ h
-
-next_none : (xs zs : List (Record RData)) (ps qs : Places) (o : Option (Record RData)) → ps ≡ o ∷ qs → o ≡ None
-    → xs ++ present ps ≡ zs → xs ++ present qs ≡ zs
-next_none xs zs ps qs o first is h = ap (λ (us : Places). xs ++ present us)
-    (sym (first ∙ ap (λ (p : Option (Record RData)). p ∷ qs) is)) ∙ h
+use Rattle.std.specs.Vec.Iter.{into_iter_items}
 
 -- no place is left
 no_next : (xs zs : List (Record RData)) (ps : Places) (m : ℕ) → xs ++ present ps ≡ zs → m ≡ 0 → m ≡ length ps → xs ≡ zs
@@ -34,17 +17,19 @@ pub loop-place-init : goal.loop-place-init
 loop-place-init c =
     let gives = c.into_iter-place-iterator.ensures.into_iter_gives in
     let len : c.self.inside.places.len ≡ length c.self.inside.places.items = omega (arith, c.self.inside.places.ok) in (
-      none_yet c.in_ok-records.records.items _ _ c.self.inside.places.items c.in_ok-records.ensures.items gives.0
-          c.self.view_is,
+      ap (λ xs. xs ++ present (into_iter_items c.into_iter-place-iterator.result)) c.in_ok-records.ensures.items
+          ∙ ap present gives.0 ∙ c.self.view_is,
       gives.1 ∙ len ∙ ap length (sym gives.0),
     )
 
 pub loop-place-preserved-in-Continue-branch-2 : goal.loop-place-preserved-in-Continue-branch-2
 loop-place-preserved-in-Continue-branch-2 c =
+    let rest = into_iter_items c.next.new.self in
     let first = c.in-Some.ensures.steps in
     let loop = c.loop-place.invariant in (
-      next_some c.loop-place.records.items _ _ _ _ c.in-Some.place c.in-Some-place.entry first.0 c.in-Some-place.is
-          c.in_ok-push.ensures.items loop.0,
+      ap (λ xs. xs ++ present rest) c.in_ok-push.ensures.items ∙ append_assoc c.loop-place.records.items _ _
+          ∙ ap (λ (ps : Places). c.loop-place.records.items ++ present ps)
+          (sym (first.0 ∙ ap (λ p. p ∷ rest) c.in-Some-place.is)) ∙ loop.0,
       len_step _ _ _ _ c.in-Some.place first.0 first.1 loop.1,
     )
 
@@ -52,7 +37,8 @@ pub loop-place-preserved : goal.loop-place-preserved
 loop-place-preserved c =
     let first = c.in-Some.ensures.steps in
     let loop = c.loop-place.invariant in (
-      next_none c.loop-place.records.items _ _ _ c.in-Some.place first.0 c.in_default.is loop.0,
+      ap (λ (ps : Places). c.loop-place.records.items ++ present ps)
+          (sym (first.0 ∙ ap (λ p. p ∷ into_iter_items c.next.new.self) c.in_default.is)) ∙ loop.0,
       len_step _ _ _ _ c.in-Some.place first.0 first.1 loop.1,
     )
 
