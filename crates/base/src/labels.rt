@@ -12,8 +12,8 @@ use crate::limits::INLINE_LABELS;
 use std::alloc::{AllocError, Global};
 use std::marker::Model;
 
-/// For how many bytes the labels of a name that is read or parsed have room at least, where they have memory of their
-/// own. Few names have more, so that nearly all take as much, which the allocator hands out again faster than many sizes.
+/// For how many bytes labels that are set have room at least, where they have memory of their own. Few names have more,
+/// so that nearly all take as much, which the allocator hands out again faster than many sizes.
 const HEAP_ROOM: usize = 64;
 
 /// Where labels are.

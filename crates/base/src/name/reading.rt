@@ -157,8 +157,9 @@ impl BinDecodable for Name {
     ghost names_at = { λ _ i. i ∷ [] };
 
     /// Reads an absolute name at the decoder's place, its pointers followed, and moves after it (RFC 1035, 4.1.4).
-    /// May grow memory for the labels, and to keep those of each pointer target that it follows, where the buffer has
-    /// more than a few. A target that is kept already ends the walk.
+    /// May grow memory for the labels, to keep those of each pointer target that it follows, where the buffer has more
+    /// than a few, and for a list of the pieces that lead from one target to the next. A target that is kept already
+    /// ends the walk.
     ///
     /// # Errors
     ///

@@ -113,8 +113,8 @@ impl<'a> BinDecoder<'a> {
         &self.buffer[self.index..]
     }
 
-    /// Follows a pointer: lends the bytes from its target on, and counts it. No other call reads bytes before the place
-    /// that is read next.
+    /// Follows a pointer: lends the bytes from its target on, and counts it. No other call lends bytes before the place
+    /// that is read next, but for labels that are kept.
     pub(crate) fn follow(&mut self, target: u16) -> &'a [u8]
         requires { target ≤ length self.old.bytes }
         ensures lent { result.now ≡ drop target self.old.bytes }
@@ -128,7 +128,7 @@ impl<'a> BinDecoder<'a> {
 
     /// How many pointers were followed into bytes. The labels that a pointer led to are read once and kept, so of a new
     /// decoder it is no more than there are offsets that a pointer can name, whatever the buffer, up to the first read
-    /// that is refused.
+    /// that is refused and after it.
     pub fn jumps(&self) -> usize
         ensures value { result ≡ self.now.jumps }
         // Where that is the number of targets that are kept, the decoder is counted: no more are
@@ -169,8 +169,7 @@ impl<'a> BinDecoder<'a> {
         Ok(())
     }
 
-    /// Goes on to a place inside the buffer or at its end, and never back: what a pointer leads to is lent by `follow`
-    /// alone.
+    /// Goes on to a place inside the buffer or at its end, and never back: `follow` lends what a pointer leads to.
     pub(crate) fn move_to(&mut self, index: usize)
         requires on { self.old.index ≤ index }
         requires inside { index ≤ length self.old.bytes }
