@@ -1,11 +1,10 @@
 -- Zones that agree on what decides on a name have the same for it.
-use Rattle.authority.proofs.CaseLemmas.{pick_alike}
-use Rattle.authority.proofs.WayLemmas.{one_more, starts}
+use Rattle.authority.proofs.WayLemmas.{starts}
 use Rattle.authority.specs.Agreement.{Agree, with_sets}
-use Rattle.authority.specs.Lookup.{Outside, alias_at, alias_else, alias_in, asked, at_source, cut_else, cut_over}
-use Rattle.authority.specs.Lookup.{encloser, encloses, end_that_exists, ends_below, exists, has_servers}
+use Rattle.authority.specs.Lookup.{Outside, alias_at, alias_else, alias_in, asked, at_source, cut_else, cut_on}
+use Rattle.authority.specs.Lookup.{cut_over, encloser, encloses, end_that_exists, exists, has_servers, highest_cut}
 use Rattle.authority.specs.Lookup.{if_exists, is_ds, lookup, name_with, records, records_of, records_of_sets, source}
-use Rattle.authority.specs.Lookup.{way, wildcard_below}
+use Rattle.authority.specs.Lookup.{wildcard_below}
 use Rattle.base.proofs.names.KeyLemmas.{key_cmp-exact, key_cmp-total}
 use Rattle.base.specs.names.Labels.{NameValue}
 use Rattle.base.specs.names.NameOrder.{exact, lowered, same_name}
@@ -22,17 +21,23 @@ use Rattle.std.proofs.lemmas.Bool.{or_parts}
 use Rattle.std.proofs.lemmas.Cmp.{eq_by_cmp_equiv}
 use Rattle.std.proofs.lemmas.List.Folds.{Any-from_list_any, list_any-from_Any}
 use Rattle.std.proofs.lemmas.Map.Views.{Contains-from_any, list_any-from_Contains}
-use Rattle.std.specs.Cmp.{Equal-is}
 use Rattle.std.proofs.lemmas.List.{take-append-drop}
+use Rattle.std.specs.Cmp.{Equal-is}
 use Rattle.std.specs.FinMap as fin
 use Rattle.std.specs.FinMap.Entries.{find-where_key, is_sorted-where_key, same_entries, where_key}
 use Rattle.std.specs.FinMap.{FinMap}
-use Rattle.std.specs.List.{filter, find, list_any}
+use Rattle.std.specs.List.{filter, list_any}
 use Rattle.std.specs.Option.{option_or}
 use Rattle.std.specs.Ordering.{eq_by_cmp}
 use Rattle.std.specs.Prelude.{Bool, List, None, Option, Some, [], cond, false, is_some, not, true, unwrap_or, ℕ, ◌&&◌}
 use Rattle.std.specs.Prelude.{◌||◌, ◌∷◌, ◌≡◌}
 use Rattle.std.specs.declared.cmp.Ordering.TheVariants.{Equal}
+
+-- what is said of one of two, by tests that agree
+pub pick_alike : {X Y : Type 0} (f : X → Y) (b c : Bool) (m n p q : X) → b ≡ c → f m ≡ f n → (b ≡ false → f p ≡ f q)
+    → f (cond b m p) ≡ f (cond c n q)
+pick_alike f b true m n p q e h k = ap (λ d. f (cond d m p)) e ∙ h
+pick_alike f b false m n p q e h k = ap (λ d. f (cond d m p)) e ∙ k e
 
 -- maps that agree on the keys that pass a test have the same entries there
 module _ (p : RrKey → Bool) (m n : FinMap key_cmp (List Datum))
@@ -84,22 +89,22 @@ module _ (z : Zone) (sets : FinMap key_cmp (List Datum)) where
 
   pub own_agrees : (n : NameValue) (b : Bool) → is_below z.origin n ≡ b
       → (is_below z.origin n ≡ true → has_servers z n ≡ has_servers y n)
-      → find (has_servers z) (cond b (n ∷ []) []) ≡ find (has_servers y) (cond b (n ∷ []) [])
+      → cond (b && has_servers z n) (Some n) None ≡ cond (b && has_servers y n) (Some n) None
   own_agrees n false e h = refl
   own_agrees n true e h = ap (λ c. cond c (Some n) None) (h e)
 
   ways_agree : (absolute : Bool) (labels : List (List ℕ)) → SameServers absolute labels
-      → find (has_servers z) (ends_below z absolute labels) ≡ find (has_servers y) (ends_below y absolute labels)
+      → cut_on z absolute labels ≡ cut_on y absolute labels
   ways_agree absolute [] h = refl
   ways_agree absolute (x ∷ labels) h =
       let n : NameValue = name_with absolute (x ∷ labels) in
       let rest = ways_agree absolute labels (λ front end e. h (x ∷ front) end (ap (λ
       (xs : List (List ℕ)). x ∷ xs) e)) in
       let own = own_agrees n (is_below z.origin n) refl (h [] (x ∷ labels) refl) in
-      one_more z absolute x labels ∙ (λ i. option_or (rest i) (own i)) ∙ sym (one_more y absolute x labels)
+      λ i. option_or (rest i) (own i)
 
   side_agrees : (n : NameValue) (b : Bool) → SameServers n.absolute n.labels
-      → find (has_servers z) (way z (cond b (parent n) n)) ≡ find (has_servers y) (way y (cond b (parent n) n))
+      → highest_cut z (cond b (parent n) n) ≡ highest_cut y (cond b (parent n) n)
   side_agrees n false h = ways_agree n.absolute n.labels h
   side_agrees n true h = ways_agree n.absolute (drop 1 n.labels) (λ front end e. h (take 1 n.labels ++ front) end
       (sym (take-append-drop 1 n.labels) ∙ ap (λ (xs : List (List ℕ)). take 1 n.labels ++ xs) e

@@ -1,21 +1,22 @@
 -- What follows of what is answered.
-use Rattle.authority.specs.Answer.{AnswerValue, answer, answer_found, of_data, owns, with_authority, is_none}
-use Rattle.authority.specs.Chain.IsChain.{ends, leads}
 use Rattle.authority.proofs.StandingLemmas.{alias_owner}
-use Rattle.authority.specs.Chain.{AreLed, AreNew, EndsFor, IsChain, authorities_for, code_for}
+use Rattle.authority.specs.Answer.{AnswerValue, answer, answer_found, of_data, owns, with_authority}
+use Rattle.authority.specs.Chain.IsChain.{ends, leads}
+use Rattle.authority.specs.Chain.{AreLed, EndsFor, authorities_for, code_for}
 use Rattle.authority.specs.Lookup.{Alias, Cut, Data, Finding, NoName, Outside, lookup}
 use Rattle.base.specs.names.Labels.{NameValue}
 use Rattle.base.specs.declared.record_type.RecordType.{RecordType}
 use Rattle.base_data.specs.declared.rdata.RData.{RData}
 use Rattle.op.specs.declared.response_code.ResponseCode.TheVariants.{ServFail}
+use Rattle.op_use.specs.Responses.{is_empty_list}
 use Rattle.op_use.specs.Zone.{Zone}
 use Rattle.rr.specs.declared.record.Record.{Record}
-use Rattle.std.proofs.Common.{ap, append_assoc, arith, inl, inr, length, refl, sym, ◌+◌, ◌++◌, ◌≤◌, ◌∙◌}
+use Rattle.std.proofs.Common.{ap, append_assoc, arith, inl, inr, refl, sym, ◌++◌, ◌+◌, ◌∙◌, ◌≤◌}
 use Rattle.std.proofs.lemmas.Bool.{cond_both, false≢true}
 use Rattle.std.proofs.lemmas.List.{append-nil}
 use Rattle.std.specs.Prelude.{List, [], false, not, suc, true, zero, ℕ, ◌∷◌, ◌≡◌, ◌⊎◌}
 
-some_more : (done : List (Record RData)) (r : Record RData) → is_none (done ++ r ∷ []) ≡ false
+some_more : (done : List (Record RData)) (r : Record RData) → is_empty_list (done ++ r ∷ []) ≡ false
 some_more [] r = refl
 some_more (x ∷ xs) r = refl
 
@@ -29,7 +30,7 @@ module _ (z : Zone) (t : RecordType) where
   data_authority done n [] = refl
   data_authority done n (r ∷ rs) = refl
 
-  authority_after : (room : ℕ) (done : List (Record RData)) (n : NameValue) (f : Finding) → is_none done ≡ false
+  authority_after : (room : ℕ) (done : List (Record RData)) (n : NameValue) (f : Finding) → is_empty_list done ≡ false
       → HasAuthority (answer_found z t room done n f)
   unfolding answer_found
   authority_after room done n Outside h = refl
@@ -67,19 +68,9 @@ module _ (z : Zone) (t : RecordType) where
       → (answer z t room [] n).authoritative ≡ false
   referrals_are_clear room n m h = ap (λ f. (answer_found z t room [] n f).authoritative) h ∙ clear_at room n m
 
-  -- the chain, after records whose owners it doesn't have
-  record IsAfter (n : NameValue) (most : ℕ) (done rs : List (Record RData)) : Type 0 where
-    chain : List (Record RData)
-    last : NameValue
-    records : List (Record RData)
-    answers_are : rs ≡ chain ++ records
-    is_chain : IsChain z t n chain last
-    short : length chain ≤ most
-    distinct : AreNew done chain
-    found : (records ≡ []) ⊎ (lookup z t last ≡ Data records)
-
+  -- the chain
   abbrev IsLed : NameValue → ℕ → List (Record RData) → AnswerValue → Type 0
-  IsLed n most done a = (rs : List (Record RData)) × (a.answers ≡ done ++ rs) × (after : IsAfter n most done rs)
+  IsLed n most done a = (rs : List (Record RData)) × (a.answers ≡ done ++ rs) × (after : AreLed z t n most done rs)
       × EndsFor z t after.last a
 
   -- what is answered for what was found is for what the zone has
@@ -177,22 +168,21 @@ module _ (z : Zone) (t : RecordType) where
       (λ fresh. alias_before n target (suc room) done r more e new
       (led_by room (done ++ r ∷ []) target (lookup z t target) refl fresh))
 
-  pub led_to : (room : ℕ) (n : NameValue) → (led : AreLed z t n (room + 1) (answer z t room [] n).answers)
+  pub led_to : (room : ℕ) (n : NameValue) → (led : AreLed z t n (room + 1) [] (answer z t room [] n).answers)
       × EndsFor z t led.last (answer z t room [] n)
-  led_to room n =
-      let led = led_by room [] n (lookup z t n) refl refl in (
-        record {
-          chain = led.2.chain;
-          last = led.2.last;
-          records = led.2.records;
-          answers_are = led.1 ∙ led.2.answers_are;
-          is_chain = led.2.is_chain;
-          short = omega (arith, led.2.short);
-          distinct = led.2.distinct;
-          found = led.2.found;
-        },
-        led.3,
-      )
+  led_to room n = let led = led_by room [] n (lookup z t n) refl refl in (
+    record {
+      chain = led.2.chain;
+      last = led.2.last;
+      records = led.2.records;
+      answers_are = led.1 ∙ led.2.answers_are;
+      is_chain = led.2.is_chain;
+      short = omega (arith, led.2.short);
+      distinct = led.2.distinct;
+      found = led.2.found;
+    },
+    led.3,
+  )
 
-  pub answers_are_led : (room : ℕ) (n : NameValue) → AreLed z t n (room + 1) (answer z t room [] n).answers
+  pub answers_are_led : (room : ℕ) (n : NameValue) → AreLed z t n (room + 1) [] (answer z t room [] n).answers
   answers_are_led room n = (led_to room n).0

@@ -1,14 +1,18 @@
--- Sets strictly below a cut decide on no name.
+-- Sets strictly below a cut decide on no name, and so on no answer, but for glue.
+use Rattle.authority.proofs.AgreeingAnswers.{others_agree, replied_alike, unless_response, whole_agrees}
 use Rattle.authority.proofs.AgreementLemmas.{any_from, found_at_source, own_agrees, some_passes, source_agrees}
 use Rattle.authority.proofs.CaseLemmas.{cuts_alike}
-use Rattle.authority.proofs.HighestCut.{last_cut, none_at_end, none_dropped, not_some}
+use Rattle.authority.proofs.CutLemmas.{cut_stands, last_cut, none_at_end, none_dropped, not_some}
 use Rattle.authority.proofs.SourceLemmas.{source_holds}
-use Rattle.authority.proofs.WayLemmas.{cut_on, no_cut_at, one_more}
-use Rattle.authority.specs.Agreement.{above_cuts, is_hidden}
-use Rattle.authority.specs.Lookup.{Outside, at_source, cut_else, cut_over, encloser, encloses, end_that_exists}
-use Rattle.authority.specs.Lookup.{ends_below, exists, has_servers, if_below, is_ds, lookup, name_with, source, way}
-use Rattle.authority.specs.Lookup.{wildcard_below}
+use Rattle.authority.proofs.WayLemmas.{no_cut_at}
+use Rattle.authority.specs.Agreement.{above_cuts, is_hidden, less_additionals, message_less_additionals}
+use Rattle.authority.specs.Answer.{answer}
+use Rattle.authority.specs.Lookup.{Cut, Outside, at_source, cut_else, cut_on, cut_over, encloser, encloses}
+use Rattle.authority.specs.Lookup.{end_that_exists, exists, has_servers, highest_cut, if_cut, is_ds, lookup, name_with}
+use Rattle.authority.specs.Lookup.{source, wildcard_below}
+use Rattle.authority.specs.Reply.{answer_to, framed, header_refusal, refused_or, reply}
 use Rattle.base.proofs.names.BelowLemmas.{lies_in, lies_so}
+use Rattle.base.proofs.names.CompareLemmas.{folded_twice}
 use Rattle.base.proofs.names.KeyLemmas.{key_cmp-exact}
 use Rattle.base.specs.names.Labels.{NameValue}
 use Rattle.base.specs.names.NameOrder.{folded, folded_labels, lowered, same_name}
@@ -18,31 +22,23 @@ use Rattle.base.specs.RrKey.{key_of}
 use Rattle.base.specs.declared.record_type.RecordType.TheVariants as types
 use Rattle.base.specs.declared.record_type.RecordType.{RecordType}
 use Rattle.base.specs.declared.rr_key.RrKey.{RrKey}
+use Rattle.op.specs.Message.{MessageValue}
+use Rattle.op.specs.MessageType.{is_response}
 use Rattle.op_use.specs.Zone.{Zone, is_owned}
 use Rattle.std.proofs.Common.{ap, drop, refl, sym, ◌++◌, ◌∙◌}
 use Rattle.std.proofs.Math.Bool.{and-false}
 use Rattle.std.proofs.lemmas.Bool.{cond_both}
 use Rattle.std.proofs.lemmas.List.{map-append}
-use Rattle.std.proofs.lemmas.Str.Ascii.{lowercase-lowercase}
 use Rattle.std.specs.Char.{to_ascii_lowercase}
 use Rattle.std.specs.Cmp.{both_ways}
 use Rattle.std.specs.FinMap as fin
-use Rattle.std.specs.List.{find}
 use Rattle.std.specs.Option.{option_or}
 use Rattle.std.specs.Prelude.{Bool, List, None, Option, Some, [], cond, false, is_some, map, not, option_map, true, ℕ}
 use Rattle.std.specs.Prelude.{◌&&◌, ◌||◌, ◌∷◌, ◌≡◌}
 
 -- names in lower case stay as they are in lower case
-lowered_label : (label : List ℕ) → map to_ascii_lowercase (map to_ascii_lowercase label) ≡ map to_ascii_lowercase label
-lowered_label [] = refl
-lowered_label (c ∷ label) = λ i. lowercase-lowercase c i ∷ lowered_label label i
-
-folded_again : (labels : List (List ℕ)) → folded_labels (folded_labels labels) ≡ folded_labels labels
-folded_again [] = refl
-folded_again (x ∷ labels) = λ i. lowered_label x i ∷ folded_again labels i
-
 lowered_again : (n : NameValue) → lowered (lowered n) ≡ lowered n
-lowered_again n = λ i. record { labels = folded_again n.labels i; absolute = n.absolute }
+lowered_again n = λ i. record { labels = folded_twice n.labels i; absolute = n.absolute }
 
 mapped_some : (o : Option NameValue) → is_some o ≡ is_some (option_map lowered o)
 mapped_some None = refl
@@ -115,11 +111,11 @@ module _ (z : Zone) where
   abbrev covers : NameValue → RrKey → Bool
   covers e k = is_at_or_below e k.name
 
-  exists_under : (e : NameValue) → find (has_servers z) (way z (parent e)) ≡ None → exists z e ≡ true
+  exists_under : (e : NameValue) → highest_cut z (parent e) ≡ None → exists z e ≡ true
       → exists y e ≡ true
   exists_under e stands h =
       let found = some_passes (covers e) z.sets h in
-      go found.0 found.1 found.2 (find (has_servers z) (way z (parent found.0.name))) refl where
+      go found.0 found.1 found.2 (highest_cut z (parent found.0.name)) refl where
         at_cut : (k : RrKey) → covers e k ≡ true → CutBetween e.absolute (folded e) → exists y e ≡ true
         at_cut k c cut =
             let m : NameValue = name_with e.absolute (cut.front ++ folded e) in
@@ -128,16 +124,16 @@ module _ (z : Zone) where
               flag = refl;
               front = folded_labels cut.front;
               labels = map-append (map to_ascii_lowercase) cut.front (folded e)
-                  ∙ ap (λ (xs : List (List ℕ)). folded_labels cut.front ++ xs) (folded_again e.labels);
+                  ∙ ap (λ (xs : List (List ℕ)). folded_labels cut.front ++ xs) (folded_twice e.labels);
             }) in
             any_from (covers e) y.sets (key_of m types.NS) below
             (ap (λ o. is_some o) (sym (stays_at m types.NS own)) ∙ cut.servers)
 
-        stands_lowered : find (has_servers z) (way z (parent (lowered e))) ≡ None
+        stands_lowered : highest_cut z (parent (lowered e)) ≡ None
         stands_lowered = is_none_by _ (hidden_lowered e ∙ none_by _ stands)
 
         go : (k : RrKey) → covers e k ≡ true → is_some (fin.get z.sets k) ≡ true → (o : Option NameValue)
-            → find (has_servers z) (way z (parent k.name)) ≡ o → exists y e ≡ true
+            → highest_cut z (parent k.name) ≡ o → exists y e ≡ true
         go k c there None hidden =
             any_from (covers e) y.sets k c (ap (λ o. is_some o) (sym (stays k (none_by _ hidden))) ∙ there)
         go k c there (Some m) hidden =
@@ -151,37 +147,33 @@ module _ (z : Zone) where
       any_from (covers e) z.sets found.0 found.1 (in_both found.0 (not (is_hidden z found.0.name))
       (ap (λ o. is_some o) (sym (kept found.0)) ∙ found.2))
 
-  exists_same : (e : NameValue) → find (has_servers z) (way z (parent e)) ≡ None → exists z e ≡ exists y e
+  exists_same : (e : NameValue) → highest_cut z (parent e) ≡ None → exists z e ≡ exists y e
   exists_same e stands = both_ways (exists z e) (exists y e) (exists_under e stands) (exists_too e)
 
   -- the cuts are the same
   ends_same : (absolute : Bool) (labels : List (List ℕ))
-      → find (has_servers z) (ends_below z absolute labels) ≡ find (has_servers y) (ends_below y absolute labels)
+      → cut_on z absolute labels ≡ cut_on y absolute labels
   ends_same absolute [] = refl
   ends_same absolute (x ∷ labels) =
-      one_more z absolute x labels ∙ go (cut_on z absolute labels) refl
-      ∙ ap (λ o. option_or o (find (has_servers y) (if_below y n))) (ends_same absolute labels)
-      ∙ sym (one_more y absolute x labels) where
+      go (cut_on z absolute labels) refl ∙ ap (λ o. option_or o (if_cut y n)) (ends_same absolute labels) where
         n : NameValue
         n = name_with absolute (x ∷ labels)
 
         go : (o : Option NameValue) → cut_on z absolute labels ≡ o
-            → option_or (cut_on z absolute labels) (find (has_servers z) (if_below z n))
-            ≡ option_or (cut_on z absolute labels) (find (has_servers y) (if_below y n))
+            → option_or (cut_on z absolute labels) (if_cut z n) ≡ option_or (cut_on z absolute labels) (if_cut y n)
         go None e = ap (option_or (cut_on z absolute labels)) (own_agrees z y.sets n (is_below z.origin n) refl
             (λ below. ap (λ o. is_some o) (stays_at n types.NS (none_by _ e))))
-        go (Some m) e = ap (λ o. option_or o (find (has_servers z) (if_below z n))) e
-            ∙ sym (ap (λ o. option_or o (find (has_servers y) (if_below y n))) e)
+        go (Some m) e = ap (λ o. option_or o (if_cut z n)) e ∙ sym (ap (λ o. option_or o (if_cut y n)) e)
 
   pub cuts_same : (t : RecordType) (n : NameValue) → cut_over z t n ≡ cut_over y t n
   cuts_same t n = go (is_ds t) where
-    go : (b : Bool) → find (has_servers z) (way z (cond b (parent n) n))
-        ≡ find (has_servers y) (way y (cond b (parent n) n))
+    go : (b : Bool) → highest_cut z (cond b (parent n) n)
+        ≡ highest_cut y (cond b (parent n) n)
     go true = ends_same n.absolute (drop 1 n.labels)
     go false = ends_same n.absolute n.labels
 
-  none_above : (n : NameValue) (b : Bool) → find (has_servers z) (way z (cond b (parent n) n)) ≡ None
-      → find (has_servers z) (way z (parent n)) ≡ None
+  none_above : (n : NameValue) (b : Bool) → highest_cut z (cond b (parent n) n) ≡ None
+      → highest_cut z (parent n) ≡ None
   none_above n true h = h
   none_above n false h = none_dropped z n.absolute n.labels h
 
@@ -189,24 +181,21 @@ module _ (z : Zone) where
   not_below : (n : NameValue) → same_name n z.origin ≡ true → is_below z.origin n ≡ false
   not_below n h = ap (λ b. is_within z.origin n && not b) h ∙ and-false (is_within z.origin n)
 
-  abbrev HasNone : NameValue → Type 0
-  HasNone n = find (has_servers z) (way z n) ≡ None
-
   ends_none : (absolute : Bool) (labels : List (List ℕ)) → cut_on z absolute labels ≡ None
-      → find (has_servers z) (way z (end_that_exists z absolute labels)) ≡ None
+      → highest_cut z (end_that_exists z absolute labels) ≡ None
   ends_none absolute [] h = refl
   ends_none absolute (x ∷ labels) h =
       let n : NameValue = name_with absolute (x ∷ labels) in
-      cond_both (encloses z n) n (end_that_exists z absolute labels) HasNone (λ e. h)
+      cond_both (encloses z n) n (end_that_exists z absolute labels) (λ m. highest_cut z m ≡ None) (λ e. h)
       (λ e. ends_none absolute labels (none_dropped z absolute (x ∷ labels) h))
 
   encloser_none : (absolute : Bool) (labels : List (List ℕ)) → exists z (name_with absolute labels) ≡ false
       → cut_on z absolute (drop 1 labels) ≡ None
-      → find (has_servers z) (way z (end_that_exists z absolute labels)) ≡ None
+      → highest_cut z (end_that_exists z absolute labels) ≡ None
   encloser_none absolute [] none h = refl
   encloser_none absolute (x ∷ labels) none h =
       let n : NameValue = name_with absolute (x ∷ labels) in
-      cond_both (encloses z n) n (end_that_exists z absolute labels) HasNone
+      cond_both (encloses z n) n (end_that_exists z absolute labels) (λ m. highest_cut z m ≡ None)
       (λ e. no_cut_at z n (not_below n (sym (ap (λ b. b || same_name n z.origin) none) ∙ e)))
       (λ e. ends_none absolute labels h)
 
@@ -215,11 +204,11 @@ module _ (z : Zone) where
       (no_cut_at z z.origin (not_below z.origin ((same_by-equiv folded).refl z.origin))))
 
   -- the source of the data isn't hidden
-  module _ (t : RecordType) (n : NameValue) (stands : find (has_servers z) (way z (parent n)) ≡ None) where
+  module _ (t : RecordType) (n : NameValue) (stands : highest_cut z (parent n) ≡ None) where
     abbrev w : NameValue
     w = wildcard_below (encloser z n)
 
-    wildcard_stands : exists z n ≡ false → find (has_servers z) (way z (parent w)) ≡ None
+    wildcard_stands : exists z n ≡ false → highest_cut z (parent w) ≡ None
     wildcard_stands none = encloser_none n.absolute n.labels none stands
 
     source_stands : (s : NameValue) → source z n ≡ Some s → is_hidden z s ≡ false
@@ -252,3 +241,27 @@ module _ (z : Zone) where
     go false within = refl
     go true within = by_cut (cut_over z t n) refl within
         ∙ ap (λ o. cut_else o (at_source y t n (source y n))) (cuts_same t n)
+
+  -- ---- what is answered
+
+  soa_same : fin.get z.sets (key_of z.origin types.SOA) ≡ fin.get y.sets (key_of z.origin types.SOA)
+  soa_same = stays_at z.origin types.SOA soa_stands
+
+  servers_same : (t : RecordType) (n m : NameValue) → lookup z t n ≡ Cut m
+      → fin.get z.sets (key_of m types.NS) ≡ fin.get y.sets (key_of m types.NS)
+  servers_same t n m h = stays_at m types.NS (cut_stands z t n m h)
+
+  pub others_same : (t : RecordType) (room : ℕ) (n : NameValue)
+      → less_additionals (answer z t room [] n) ≡ less_additionals (answer (above_cuts z) t room [] n)
+  others_same t room n = others_agree z y.sets lookup_same soa_same servers_same t room n
+
+  pub whole_same : (t : RecordType) (room : ℕ) (n : NameValue) → (answer z t room [] n).authorities ≡ []
+      → answer z t room [] n ≡ answer (above_cuts z) t room [] n
+  whole_same t room n none = whole_agrees z y.sets lookup_same soa_same servers_same t room n none
+
+  pub replies_same : (m : MessageValue)
+      → option_map message_less_additionals (reply z m) ≡ option_map message_less_additionals (reply (above_cuts z) m)
+  replies_same m = unless_response message_less_additionals (is_response m.metadata.message_type)
+      (framed m (refused_or (header_refusal m) (answer_to z m.queries)))
+      (framed m (refused_or (header_refusal m) (answer_to y m.queries)))
+      (ap (framed m) (replied_alike z y.sets soa_same less_additionals (λ t n. others_same t 11 n) m))

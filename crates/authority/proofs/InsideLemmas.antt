@@ -1,51 +1,32 @@
--- Sets that stand neither at the origin nor below it are never looked at.
+-- Sets that stand neither at the origin nor below it are never looked at, and so change no answer.
+use Rattle.authority.proofs.AgreeingAnswers.{answers_agree, replied_alike}
 use Rattle.authority.proofs.AgreementLemmas.{any_from, below_by, lookup_agrees, some_passes}
+use Rattle.authority.proofs.CutLemmas.{cut_below, cut_within}
 use Rattle.authority.proofs.SourceLemmas.{source_holds}
-use Rattle.authority.proofs.WayLemmas.{starts}
-use Rattle.authority.specs.Agreement.{Agree, with_sets}
+use Rattle.authority.proofs.WayLemmas.{starts, wildcard_within, within_itself, within_too}
+use Rattle.authority.specs.Agreement.{Agree, inside, with_sets}
+use Rattle.authority.specs.Answer.{answer}
 use Rattle.authority.specs.Lookup.{Outside, at_source, cut_else, cut_over, encloser, encloses, end_that_exists, exists}
 use Rattle.authority.specs.Lookup.{lookup, name_with, source, wildcard_below}
-use Rattle.base.proofs.names.BelowLemmas.{lies_in, lies_so}
+use Rattle.authority.specs.Reply.{framed, reply}
+use Rattle.base.proofs.names.KeyLemmas.{key_cmp-exact}
 use Rattle.base.specs.names.Labels.{NameValue}
-use Rattle.base.specs.names.NameOrder.{folded, lowered}
+use Rattle.base.specs.names.NameOrder.{lowered}
 use Rattle.base.specs.names.NameOrderLaws.{same_lower-exact}
-use Rattle.base.specs.names.Parents.{asterisk, is_at_or_below, is_within}
+use Rattle.base.specs.names.Parents.{is_at_or_below, is_within}
 use Rattle.base.specs.RrKey.{key_cmp, key_of}
 use Rattle.base.specs.declared.record_type.RecordType.TheVariants as types
 use Rattle.base.specs.declared.record_type.RecordType.{RecordType}
 use Rattle.base.specs.declared.rr_key.RrKey.{RrKey}
+use Rattle.op.specs.Message.{MessageValue}
+use Rattle.op.specs.MessageType.{is_response}
 use Rattle.op_use.specs.Zone.{Datum, Zone, is_owned}
-use Rattle.std.proofs.Common.{ap, append_assoc, refl, subst, sym, ◌++◌, ◌∙◌}
-use Rattle.std.specs.Char.{to_ascii_lowercase}
+use Rattle.std.proofs.Common.{ap, refl, subst, sym, ◌∙◌}
 use Rattle.std.proofs.lemmas.Bool.{cond_both}
 use Rattle.std.specs.Cmp.{both_ways, first_so}
 use Rattle.std.specs.FinMap as fin
 use Rattle.std.specs.FinMap.{FinMap}
-use Rattle.std.specs.Prelude.{Bool, List, Some, [], cond, false, is_some, map, true, ℕ, ◌∷◌, ◌≡◌}
-
--- what lies in a name that lies in another lies in that
-pub within_too : (a n b : NameValue) → is_within a n ≡ true → is_at_or_below n b ≡ true → is_at_or_below a b ≡ true
-within_too a n b w h =
-    let outer = lies_in a (lowered n) w in
-    let inner = lies_in n b h in
-    lies_so a b (record {
-      flag = outer.flag ∙ inner.flag;
-      front = inner.front ++ outer.front;
-      labels = inner.labels ∙ ap (λ (xs : List (List ℕ)). inner.front ++ xs) outer.labels
-          ∙ sym (append_assoc inner.front outer.front (folded a));
-    })
-
-pub within_itself : (a : NameValue) → is_within a a ≡ true
-within_itself a = lies_so a (lowered a) (record { flag = refl; front = []; labels = refl })
-
-pub wildcard_within : (a n : NameValue) → is_within a n ≡ true → is_within a (wildcard_below n) ≡ true
-wildcard_within a n w =
-    let lies = lies_in a (lowered n) w in
-    lies_so a (lowered (wildcard_below n)) (record {
-      flag = lies.flag;
-      front = map to_ascii_lowercase asterisk ∷ lies.front;
-      labels = ap (λ (xs : List (List ℕ)). map to_ascii_lowercase asterisk ∷ xs) lies.labels;
-    })
+use Rattle.std.specs.Prelude.{Bool, List, None, Some, [], cond, false, is_some, true, ℕ, ◌∷◌, ◌≡◌}
 
 -- the closest encloser of a name in the zone is in the zone
 module _ (z : Zone) where
@@ -104,3 +85,27 @@ module _ (z : Zone) (sets : FinMap key_cmp (List Datum)) where
       go false w = ap (λ b. cond b (cut_else (cut_over z t n) (at_source z t n (source z n))) Outside) w
           ∙ sym (ap (λ b. cond b (cut_else (cut_over (with_sets z sets) t n)
           (at_source (with_sets z sets) t n (source (with_sets z sets) n))) Outside) w)
+
+-- ---- what is answered
+
+module _ (z : Zone) where
+  kept_inside : (k : RrKey) → is_at_or_below z.origin k.name ≡ true
+      → fin.get z.sets k ≡ fin.get (inside z).sets k
+  kept_inside k h = sym (fin.get-retain_keys z.sets (λ (q : RrKey). is_at_or_below z.origin q.name) k
+      (λ x t. ap (λ (q : RrKey). is_at_or_below z.origin q.name) (sym (key_cmp-exact k x t)))
+      ∙ ap (λ b. cond b (fin.get z.sets k) None) h)
+
+  pub found_inside : (t : RecordType) (n : NameValue) → lookup z t n ≡ lookup (inside z) t n
+  found_inside t n = lookup_inside z (inside z).sets kept_inside t n
+
+  soa_inside : fin.get z.sets (key_of z.origin types.SOA) ≡ fin.get (inside z).sets (key_of z.origin types.SOA)
+  soa_inside = kept_inside (key_of z.origin types.SOA) (within_itself z.origin)
+
+  pub answer_inside : (t : RecordType) (room : ℕ) (n : NameValue) → answer z t room [] n ≡ answer (inside z) t room [] n
+  answer_inside t room n = answers_agree z (inside z).sets found_inside soa_inside
+      (λ k m cut h. kept_inside (key_of cut types.NS) (first_so (is_within z.origin cut) _ (cut_below z k m cut h)))
+      t room n (λ k m cut h. kept_inside (key_of m k) (cut_within z k m cut h))
+
+  pub reply_inside : (m : MessageValue) → reply z m ≡ reply (inside z) m
+  reply_inside m = ap (λ a. cond (is_response m.metadata.message_type) None (Some (framed m a)))
+      (replied_alike z (inside z).sets soa_inside (λ a. a) (λ t n. answer_inside t 11 n) m)

@@ -1,9 +1,14 @@
--- No record of what is found stands twice.
-use Rattle.authority.proofs.StandingLemmas.{OfFound, alias_of, all-append, each_shown, found_set, of_lookup, shown_all}
-use Rattle.authority.specs.Answer.{is_given, owns}
-use Rattle.authority.specs.Lookup.{Finding, least_ttl, lookup, record_of, records, records_of, records_of_sets, shown}
+-- No record of what is found, or of an answer, stands twice.
+use Rattle.authority.proofs.StandingLemmas.{OfFound, alias_of, alias_owner, all-append, each_shown, of_lookup}
+use Rattle.authority.proofs.StandingLemmas.{owners_found, shown_all}
+use Rattle.authority.specs.Answer.{AnswerValue, addresses_found, addresses_of, answer, answer_found, as_negative}
+use Rattle.authority.specs.Answer.{end_like, extras, host_in, is_given, negative, of_data, owns, referring}
+use Rattle.authority.specs.Answer.{with_addresses, with_authority, with_host}
+use Rattle.authority.specs.Lookup.{Alias, Cut, Data, Finding, NoName, Outside, least_ttl, lookup, record_of, records}
+use Rattle.authority.specs.Lookup.{records_of, records_of_sets, shown}
 use Rattle.authority.specs.Once.{HasProperSets, IsProper, same_record}
-use Rattle.base.proofs.names.KeyLemmas.{key_cmp-total}
+use Rattle.authority.specs.Reply.{answer_to, framed, header_refusal, question_refusal, refused_or, reply}
+use Rattle.base.proofs.names.KeyLemmas.{key_cmp-exact, key_cmp-total}
 use Rattle.base.specs.names.Labels.{NameValue}
 use Rattle.base.specs.names.NameOrder.{folded, lowered, same_name}
 use Rattle.base.specs.names.NameOrderLaws.{same_by-equiv, same_lower-exact}
@@ -18,24 +23,31 @@ use Rattle.base_data.specs.Kinds.{type_of_data}
 use Rattle.base_data.specs.RData.{is_empty_data}
 use Rattle.base_data.specs.SameData.{same_data}
 use Rattle.base_data.specs.declared.rdata.RData.{RData}
-use Rattle.op_use.specs.Server.{is_any, is_cname}
-use Rattle.op_use.specs.Zone.{Datum, Zone, is_owned}
+use Rattle.op.specs.Message.{MessageValue}
+use Rattle.op.specs.MessageType.{is_response}
+use Rattle.op.specs.declared.query.Query.{Query}
+use Rattle.op.specs.declared.response_code.ResponseCode.TheVariants.{ServFail}
+use Rattle.op_use.specs.Server.{StepCode, is_any, is_cname}
+use Rattle.op_use.specs.Zone.{Datum, Zone, at, is_owned}
 use Rattle.rr.specs.Record.{type_of_record}
 use Rattle.rr.specs.declared.record.Record.{Record}
-use Rattle.std.proofs.Common.{ap, refl, rules, subst, sym, ◌++◌, ◌∙◌}
+use Rattle.std.proofs.Common.{ap, append_assoc, refl, rules, subst, sym, ◌++◌, ◌∙◌}
 use Rattle.std.proofs.Math.Bool.{and-false}
-use Rattle.std.proofs.lemmas.Bool.{false_from_ne_true, false≢true, or_parts}
-use Rattle.std.proofs.lemmas.List.Elements.{All-contains, All-from_recursion}
+use Rattle.std.proofs.lemmas.Bool.{cond_both, false_from_ne_true, false≢true, or_parts}
+use Rattle.std.proofs.lemmas.List.Elements.{All-from_recursion}
 use Rattle.std.proofs.lemmas.Map.Keys.{IsDistinct-cons, IsDistinct-head, IsDistinct-tail}
+use Rattle.std.proofs.lemmas.List.{append-nil}
 use Rattle.std.specs.Bool.{Decides}
 use Rattle.std.specs.Cmp.Derive.{both_true}
-use Rattle.std.specs.Cmp.{first_so, second_so, tied_itself}
+use Rattle.std.specs.Cmp.{Equal-is, first_so, second_so, tied_itself}
 use Rattle.std.specs.FinMap as fin
 use Rattle.std.specs.FinMap.Entries.{below_all, is_sorted}
-use Rattle.std.specs.List.{AllByRecursion, IsDistinct, filter, list_any}
-use Rattle.std.specs.Ordering.{is_lt, on}
-use Rattle.std.specs.Prelude.{Bool, List, None, Option, Some, [], T, cond, false, map, not, true, unwrap_or, ℕ, ◌&&◌}
-use Rattle.std.specs.Prelude.{◌||◌, ◌∷◌, ◌≡◌, ◌≢◌}
+use Rattle.std.specs.List.{AllByRecursion, IsDistinct, filter, filter_map, fold, list_any}
+use Rattle.std.specs.Ordering.{eq_by_cmp, is_eq, is_lt, on}
+use Rattle.std.specs.Prelude.{Bool, List, None, Option, Some, T, [], cond, false, map, not, suc, true, unwrap_or, zero}
+use Rattle.std.specs.Prelude.{ℕ, ◌&&◌, ◌||◌, ◌∷◌, ◌≡◌, ◌≢◌}
+use Rattle.std.specs.declared.cmp.Ordering.TheVariants.{Equal, Greater, Less}
+use Rattle.std.specs.declared.cmp.Ordering.{Ordering}
 
 types_decide : (s t : RecordType) → Decides (same_type s t) (s ≡ t)
 types_decide = search rules
@@ -108,6 +120,40 @@ apart_given n t rs qs h k m = apart_by
       paired [] a b = tt
       paired (x ∷ xs) a b = ((a.0, b.0), paired xs a.1 b.1)
 
+-- ---- entries in the order of their keys
+
+not_equal : (o : Ordering) → is_lt o ≡ true → is_eq o ≡ false
+not_equal Less h = refl
+not_equal Equal h = cc
+not_equal Greater h = refl
+
+none_before : (k : RrKey) (es : List (RrKey × List Datum)) → below_all key_cmp k es ≡ true
+    → fin.find key_cmp k es ≡ None
+none_before k [] h = refl
+none_before k (e ∷ es) h =
+    ap (λ b. cond b (Some e.1) (fin.find key_cmp k es)) (not_equal (key_cmp k e.0) (first_so _ _ h))
+    ∙ none_before k es (second_so (is_lt (key_cmp k e.0)) _ h)
+
+pub same_key : (q k : RrKey) → eq_by_cmp key_cmp q k ≡ true → q ≡ k
+same_key q k t = key_cmp-exact q k ((Equal-is (key_cmp q k)).0 t)
+
+-- what holds of what is found under each key holds of each entry
+entries_hold : (P : RrKey × List Datum → Type 0) (es : List (RrKey × List Datum)) → is_sorted key_cmp es ≡ true
+    → ((q : RrKey) (ds : List Datum) → fin.find key_cmp q es ≡ Some ds → P (q, ds)) → AllByRecursion P es
+entries_hold P [] s h = tt
+entries_hold P (e ∷ es) s h = (
+  h e.0 e.1 (ap (λ o. cond (is_eq o) (Some e.1) (fin.find key_cmp e.0 es)) (tied_itself key_cmp-total e.0)),
+  entries_hold P es (second_so (below_all key_cmp e.0 es) _ s) (λ q ds f. h q ds (later q ds f (eq_by_cmp key_cmp q e.0)
+      refl)),
+) where
+  later : (q : RrKey) (ds : List Datum) → fin.find key_cmp q es ≡ Some ds → (b : Bool) → eq_by_cmp key_cmp q e.0 ≡ b
+      → cond b (Some e.1) (fin.find key_cmp q es) ≡ Some ds
+  later q ds f false t = f
+  later q ds f true t =
+      let none : fin.find key_cmp q es ≡ None = ap (λ k. fin.find key_cmp k es) (same_key q e.0 t)
+      ∙ none_before e.0 es (first_so _ _ s) in
+      cc
+
 -- ---- the records of a set
 
 pub none_once : IsDistinct same_record []
@@ -161,21 +207,9 @@ set_block class n e h = record {
   kinds = shown_types class n (least_ttl (shown e.1)) e.0.record_type e.1 h.1;
 }
 
-found_proper : (q : RrKey) (ds : List Datum) (es : List (RrKey × List Datum)) → AllByRecursion IsProper es
-    → fin.find key_cmp q es ≡ Some ds → IsProper (q, ds)
-found_proper q ds es all h =
-    All-contains IsProper es (q, ds) (All-from_recursion IsProper es all) (found_set q es ds h)
-
 module _ (z : Zone) (proper : HasProperSets z) where
   pub records_block : (n : NameValue) (k : RrKey) → IsBlock n k.record_type (records z n k)
-  records_block n k = go (fin.get z.sets k) refl where
-    go : (o : Option (List Datum)) → fin.get z.sets k ≡ o
-        → IsBlock n k.record_type (records_of z.class n (unwrap_or (fin.get z.sets k) []))
-    go None e = subst (λ (x : Option (List Datum)). IsBlock n k.record_type (records_of z.class n (unwrap_or x [])))
-        (sym e) (no_block n k.record_type)
-    go (Some ds) e = subst (λ (x : Option (List Datum)). IsBlock n k.record_type (records_of z.class n
-        (unwrap_or x []))) (sym e) (set_block z.class n (k, ds)
-        (found_proper k ds (fin.entries z.sets) proper (sym (fin.get-entries z.sets k) ∙ e)))
+  records_block n k = set_block z.class n (k, at z k) (proper k)
 
   -- ---- all sets of an owner
 
@@ -240,12 +274,18 @@ module _ (z : Zone) (proper : HasProperSets z) where
   abbrev pub IsGood : RecordType → Finding → Type 0
   IsGood t f = OfFound (λ (r : Record RData). type_of_record r ≡ types.CNAME) (AreOnce t) f
 
+  all_proper : AllByRecursion IsProper (fin.entries z.sets)
+  all_proper = entries_hold IsProper (fin.entries z.sets) sorted (λ q ds e. subst (λ o. IsProper (q, unwrap_or o []))
+      (fin.get-entries z.sets q ∙ e) (proper q)) where
+        sorted : is_sorted key_cmp (fin.entries z.sets) ≡ true
+        sorted = is_true _ (fin.entries_sorted z.sets)
+
   module _ (t : RecordType) (n : NameValue) where
     good_asked : (s : NameValue) (b : Bool) → is_any t ≡ b
         → AreOnce t (cond b (given n (kept s (fin.entries z.sets))) (records z n (key_of s t)))
     good_asked s true e = (
       all_once s n (fin.entries z.sets) (is_true (is_sorted key_cmp (fin.entries z.sets))
-          (fin.entries_sorted z.sets)) proper,
+          (fin.entries_sorted z.sets)) all_proper,
       λ no. absurd (false≢true (sym no ∙ e)),
     )
     good_asked s false e = let block = records_block n (key_of s t) in (block.once, λ no. block.kinds)
@@ -255,3 +295,167 @@ module _ (z : Zone) (proper : HasProperSets z) where
         (λ s e r target h. alias_of z t n (is_cname t || is_any t) (records z n (key_of s types.CNAME)) r target
         (λ (x : Record RData). type_of_record x ≡ types.CNAME) ((records_block n (key_of s types.CNAME)).kinds) h)
         (λ s e. good_asked s (is_any t) refl)
+
+-- ---- answers and replies
+
+-- another TTL changes no comparison
+negative_apart : (r : Record RData) (rs : List (Record RData))
+    → AllByRecursion (λ (q : Record RData). same_record r q ≡ false) rs
+    → AllByRecursion (λ (q : Record RData). same_record (as_negative r) q ≡ false) (map as_negative rs)
+negative_apart r [] h = tt
+negative_apart r (q ∷ rs) h = (h.0, negative_apart r rs h.1)
+
+negative_once : (rs : List (Record RData)) → IsDistinct same_record rs → IsDistinct same_record (map as_negative rs)
+negative_once [] h = h
+negative_once (r ∷ rs) h = IsDistinct-cons same_record (as_negative r) (map as_negative rs)
+    (negative_apart r rs (IsDistinct-head same_record r rs h)) (negative_once rs (IsDistinct-tail same_record r rs h))
+
+negative_types : (t : RecordType) (rs : List (Record RData)) → AreOfType t rs → AreOfType t (map as_negative rs)
+negative_types t [] h = tt
+negative_types t (r ∷ rs) h = (h.0, negative_types t rs h.1)
+
+module _ (z : Zone) (proper : HasProperSets z) where
+  -- ---- additional records
+
+  addresses_by : (glued : Bool) (t : RecordType) (n : NameValue) (f : Finding) → is_any t ≡ false → lookup z t n ≡ f
+      → IsBlock n t (addresses_found z glued t n f)
+  addresses_by glued t n (Data rs) a e =
+      let good = subst (IsGood z proper t) e (good_lookup z proper t n) in
+      record {
+        once = good.0;
+        owners = subst (OfFound (λ (r : Record RData). r.name ≡ n) (AreOf n)) e (owners_found z t n);
+        kinds = good.1 a;
+      }
+  addresses_by true t n (Cut m) a e = records_block z proper n (key_of n t)
+  addresses_by false t n (Cut m) a e = no_block n t
+  addresses_by glued t n Outside a e = no_block n t
+  addresses_by glued t n NoName a e = no_block n t
+  addresses_by glued t n (Alias r target) a e = no_block n t
+
+  module _ (glued : Bool) (given : List (Record RData)) where
+    abbrev IsOnce : List (Record RData) → Type 0
+    IsOnce xs = IsDistinct same_record (given ++ xs)
+
+    addresses_once : (t : RecordType) (xs : List (Record RData)) (n : NameValue) → is_any t ≡ false → IsOnce xs
+        → IsOnce (with_addresses z glued given t xs n)
+    addresses_once t xs n a h = go (is_given (given ++ xs) n t) refl where
+      go : (b : Bool) → is_given (given ++ xs) n t ≡ b → IsOnce (cond b xs (xs ++ addresses_of z glued t n))
+      go true e = h
+      go false e =
+          let block = addresses_by glued t n (lookup z t n) a refl in
+          subst (IsDistinct same_record) (append_assoc given xs (addresses_of z glued t n))
+          (joined (given ++ xs) (addresses_of z glued t n) h block.once
+          (apart_given n t (given ++ xs) (addresses_of z glued t n) e block.owners block.kinds))
+
+    hosts_once : (hosts : List NameValue) (xs : List (Record RData)) → IsOnce xs
+        → IsOnce (fold (with_host z glued given) xs hosts)
+    hosts_once [] xs h = h
+    hosts_once (n ∷ hosts) xs h = hosts_once hosts (with_host z glued given xs n)
+        (addresses_once types.AAAA (with_addresses z glued given types.A xs n) n refl
+        (addresses_once types.A xs n refl h))
+
+    extras_once : (rs : List (Record RData)) → IsDistinct same_record given → IsOnce (extras z glued given rs)
+    extras_once rs h = hosts_once (filter_map (λ (r : Record RData). host_in r.rdata) rs) []
+        (subst (IsDistinct same_record) (sym (append-nil given)) h)
+
+  -- ---- answers
+
+  -- aliases of which none stands twice
+  record AreAliases (done : List (Record RData)) : Type 0 where
+    once : IsDistinct same_record done
+    kinds : AreOfType types.CNAME done
+
+  abbrev IsWhole : AnswerValue → Type 0
+  IsWhole a = IsDistinct same_record (a.answers ++ (a.authorities ++ a.additionals))
+
+  alone : (rs : List (Record RData)) → IsDistinct same_record rs → IsDistinct same_record (rs ++ [])
+  alone rs h = subst (IsDistinct same_record) (sym (append-nil rs)) h
+
+  with_negative : (done : List (Record RData)) (n : NameValue) → AreAliases done
+      → IsDistinct same_record (done ++ (negative z n ++ []))
+  with_negative done n h =
+      let block = records_block z proper (end_like z.origin n) (key_of z.origin types.SOA) in
+      subst (λ (xs : List (Record RData)). IsDistinct same_record (done ++ xs)) (sym (append-nil (negative z n)))
+      (joined done (negative z n) h.once
+      (negative_once (records z (end_like z.origin n) (key_of z.origin types.SOA)) block.once)
+      (apart_types types.CNAME types.SOA done (negative z n) (λ e. cc) h.kinds
+      (negative_types types.SOA (records z (end_like z.origin n) (key_of z.origin types.SOA)) block.kinds)))
+
+  with_data : (t : RecordType) (done : List (Record RData)) (n : NameValue) (rs : List (Record RData))
+      → lookup z t n ≡ Data rs → AreAliases done → owns n done ≡ false → IsWhole (of_data z t done n rs)
+  with_data t done n [] e h new = with_negative done n h
+  with_data t done n (r ∷ rs) e h new = unless_any (is_any t) where
+    all : IsDistinct same_record (done ++ r ∷ rs)
+    all = joined done (r ∷ rs) h.once ((subst (IsGood z proper t) e (good_lookup z proper t n)).0)
+        (apart_owners n done (r ∷ rs) new (subst (OfFound (λ (q : Record RData). q.name ≡ n) (AreOf n)) e
+        (owners_found z t n)))
+
+    unless_any : (b : Bool) → IsDistinct same_record ((done ++ r ∷ rs) ++ ([] ++ cond b []
+        (extras z false (done ++ r ∷ rs) (r ∷ rs))))
+    unless_any true = alone (done ++ r ∷ rs) all
+    unless_any false = extras_once false (done ++ r ∷ rs) (r ∷ rs) all
+
+  with_servers : (done : List (Record RData)) (m : NameValue) → AreAliases done
+      → IsWhole (referring z done (records z m (key_of m types.NS)))
+  with_servers done m h =
+      let rs : List (Record RData) = records z m (key_of m types.NS) in
+      let block = records_block z proper m (key_of m types.NS) in
+      subst (IsDistinct same_record) (append_assoc done rs (extras z true (done ++ rs) rs))
+      (extras_once true (done ++ rs) rs (joined done rs h.once block.once
+      (apart_types types.CNAME types.NS done rs (λ e. cc) h.kinds block.kinds)))
+
+  one_more : (t : RecordType) (done : List (Record RData)) (n target : NameValue) (r : Record RData)
+      → lookup z t n ≡ Alias r target → AreAliases done → owns n done ≡ false → AreAliases (done ++ r ∷ [])
+  one_more t done n target r e h new =
+      let kind : type_of_record r ≡ types.CNAME = subst (IsGood z proper t) e (good_lookup z proper t n) in
+      record {
+        once = joined done (r ∷ []) h.once (IsDistinct-cons same_record r [] tt none_once)
+            (apart_owners n done (r ∷ []) new (alias_owner z t n r target e, tt));
+        kinds = all-append (λ (q : Record RData). type_of_record q ≡ types.CNAME) done (r ∷ []) h.kinds (kind, tt);
+      }
+
+  whole_by : (t : RecordType) (room : ℕ) (done : List (Record RData)) (n : NameValue) (f : Finding) → lookup z t n ≡ f
+      → AreAliases done → owns n done ≡ false → IsWhole (answer_found z t room done n f)
+  unfolding answer_found
+  whole_by t room done n Outside e h new = alone done h.once
+  whole_by t room done n NoName e h new = with_negative done n h
+  whole_by t room done n (Data rs) e h new = with_data t done n rs e h new
+  whole_by t room done n (Cut m) e h new = with_servers done m h
+  whole_by t zero done n (Alias r target) e h new = alone (done ++ r ∷ []) ((one_more t done n target r e h new).once)
+  whole_by t (suc room) done n (Alias r target) e h new =
+      let more = one_more t done n target r e h new in
+      cond_both (owns target (done ++ r ∷ [])) (with_authority ServFail (done ++ r ∷ []) [] [])
+      (answer_found z t room (done ++ r ∷ []) target (lookup z t target)) IsWhole
+      (λ again. alone (done ++ r ∷ []) more.once)
+      (λ fresh. whole_by t room (done ++ r ∷ []) target (lookup z t target) refl more fresh)
+
+  pub answers_once : (t : RecordType) (room : ℕ) (n : NameValue) → IsWhole (answer z t room [] n)
+  answers_once t room n =
+      whole_by t room [] n (lookup z t n) refl (record { once = none_once; kinds = tt }) refl
+
+  -- ---- replies
+
+  refused_once : (o : StepCode) (a : AnswerValue) → IsWhole a → IsWhole (refused_or o a)
+  refused_once (Some code) a h = none_once
+  refused_once None a h = h
+
+  to_questions : (qs : List Query) → IsWhole (answer_to z qs)
+  to_questions [] = none_once
+  to_questions (q ∷ []) = refused_once (question_refusal z q) (answer z q.query_type 11 [] q.name)
+      (answers_once q.query_type 11 q.name)
+  to_questions (q ∷ r ∷ qs) = none_once
+
+  abbrev IsWholeReply : Option MessageValue → Type 0
+  IsWholeReply None = Unit {0}
+  IsWholeReply (Some r) = IsDistinct same_record (r.answers ++ (r.authorities ++ r.additionals))
+
+  unless_response : (m : MessageValue) (b : Bool) (a : AnswerValue) → IsWhole a
+      → IsWholeReply (cond b None (Some (framed m a)))
+  unless_response m true a h = tt
+  unless_response m false a h = h
+
+  pub replies_once : (m r : MessageValue) → reply z m ≡ Some r
+      → IsDistinct same_record (r.answers ++ (r.authorities ++ r.additionals))
+  replies_once m r h = subst IsWholeReply h (unless_response m (is_response m.metadata.message_type)
+      (refused_or (header_refusal m) (answer_to z m.queries))
+      (refused_once (header_refusal m) (answer_to z m.queries) (to_questions m.queries)))

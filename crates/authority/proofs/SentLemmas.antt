@@ -1,8 +1,7 @@
 -- A reply always has room: its one question was read, and 512 bytes are allowed.
-use Rattle.authority.specs.Reply.{framed, header_refusal, answer_to, one_question, only_code, refused_or}
+use Rattle.authority.specs.Reply.{answer_to, framed, header_refusal, one_question, only_code, refused_or}
 use Rattle.authority.specs.Sent.{is_cut_short, malformed_by, most_sent, sent, sent_by, sent_of, some_bytes}
 use Rattle.authority.specs.Sent.{whole_or_less}
-use Rattle.authority.specs.Answer.{is_none}
 use Rattle.authority.specs.declared.sending.Carrier.TheVariants as carriers
 use Rattle.authority.specs.declared.sending.Carrier.{Carrier}
 use Rattle.base.specs.Words.BackToBack.{more}
@@ -21,6 +20,7 @@ use Rattle.op.specs.Query.{IsQueryAt, plain_query}
 use Rattle.op.specs.declared.header.Header.{Header}
 use Rattle.op.specs.declared.query.Query.{Query}
 use Rattle.op.specs.declared.response_code.ResponseCode.TheVariants.{FormErr}
+use Rattle.op_use.specs.Responses.{is_empty_list}
 use Rattle.op_use.specs.Zone.{Zone}
 use Rattle.std.proofs.Common.{Err, List, None, Ok, Result, Some, [], ap, arith, cond, false, refl, true, ◌+◌, ◌≤◌}
 use Rattle.std.specs.Prelude.{Bool, ℕ, ◌&&◌, ◌∷◌, ◌≡◌}
@@ -40,7 +40,7 @@ module _ (limit : ℕ) (e : ProtoError) where
       → some_bytes (whole_or_less limit m r) ≡ Err e → ⊥
   by_answer m (Err f) room is h = not_refused m limit 0 [] f (omega (arith, room)) is
   by_answer m (Ok bytes) room is h =
-      less_or_whole (record m { additionals = [] }) bytes (is_cut_short bytes && is_none m.authorities) room h
+      less_or_whole (record m { additionals = [] }) bytes (is_cut_short bytes && is_empty_list m.authorities) room h
 
   sent_in_room : (m : MessageValue) → HasRoom m limit → sent_of limit (Some m) ≡ Err e → ⊥
   sent_in_room m room h = by_answer m (message_answer limit m) room refl h

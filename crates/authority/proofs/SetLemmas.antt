@@ -1,21 +1,27 @@
--- The sets of a map as those of the zone that it holds.
+-- The sets of a map as those of the zone that it holds, and the records that are answered of them.
 use Rattle.authority.specs.Found.{answered}
-use Rattle.authority.specs.Lookup.{exists, exists_among, records, records_of, records_of_sets}
+use Rattle.authority.specs.Lookup.{exists, exists_among, least_ttl, record_of, records, records_of, records_of_sets}
+use Rattle.authority.specs.Lookup.{shown}
+use Rattle.authority.specs.Answer.{as_negative}
 use Rattle.base.proofs.names.KeyLemmas.{key_cmp-exact, key_cmp-total}
 use Rattle.base.specs.names.Labels.{NameValue}
 use Rattle.base.specs.names.Parents.{is_at_or_below}
 use Rattle.base.specs.RrKey.{key_cmp}
 use Rattle.base.specs.declared.dns_class.DNSClass.{DNSClass}
 use Rattle.base.specs.declared.rr_key.RrKey.{RrKey}
+use Rattle.base_data.specs.declared.rdata.RData.{RData}
 use Rattle.op_use.proofs.MapZones.{any_entries, get_zone}
 use Rattle.op_use.proofs.OwnerKeys.{least, next_owned, owned_entry, starts}
 use Rattle.op_use.specs.Applying.{data_in_set, entry_of, zone_of_map}
 use Rattle.op_use.specs.Zone.{Datum, is_owned}
+use Rattle.op_use.specs.NamedChanges.{datum_of}
 use Rattle.rr.specs.RecordSet.{SetValue}
-use Rattle.std.proofs.Common.{ap, append_assoc, refl, sym, ◌++◌, ◌∙◌}
+use Rattle.rr.specs.declared.record.Record.{Record}
+use Rattle.std.proofs.Common.{ap, append_assoc, drop, refl, sym, ◌++◌, ◌∙◌}
 use Rattle.std.proofs.lemmas.List.Folds.{flat_map-map}
 use Rattle.std.proofs.lemmas.List.{map-append}
 use Rattle.std.proofs.lemmas.Map.Keys.{sorted_head, sorted_tail}
+use Rattle.std.proofs.lemmas.Simd.{map-map}
 use Rattle.std.specs.BTreeMap as tree
 use Rattle.std.specs.BTreeMap.Range.{entries_between}
 use Rattle.std.specs.BTreeMap.{BTreeMap}
@@ -25,11 +31,11 @@ use Rattle.std.specs.FinMap.Entries.{below_all, is_sorted, same_entries}
 use Rattle.std.specs.FinMap.{FinMap}
 use Rattle.std.specs.List.Sorted.{IsStrictlySortedBy}
 use Rattle.std.specs.Borrow.{Bor}
-use Rattle.std.specs.List.{AllByRecursion, filter, flat_map, take_while}
+use Rattle.std.specs.List.{AllByRecursion, filter, flat_map, fold, take_while}
 use Rattle.std.specs.Map.{keys_of, values_of}
 use Rattle.std.specs.Ordering.{is_lt}
-use Rattle.std.specs.Prelude.{Bool, List, None, Option, Some, [], cond, false, map, option_map, true, unwrap_or, ◌&&◌}
-use Rattle.std.specs.Prelude.{◌∷◌, ◌≡◌}
+use Rattle.std.specs.Prelude.{Bool, List, None, Option, Some, [], cond, false, map, min, option_map, true, unwrap_or, ℕ}
+use Rattle.std.specs.Prelude.{◌&&◌, ◌∷◌, ◌≡◌}
 use Rattle.std.specs.declared.cmp.Ordering.TheVariants.{Less}
 use Rattle.std.specs.declared.ops.Bound.TheVariants.{Included, Unbounded}
 
@@ -127,3 +133,25 @@ module _ (owner : NameValue) where
   sets_begin found k s es none e ordered h =
       ap (λ xs. map (λ (s : Bor SetValue). s.now) xs ++ values_of (take_while (owned_entry owner) s)) none
       ∙ ap values_of (starts owner (λ q. true) k s es e ordered h)
+
+-- ---- the records of a set, one after another
+
+-- what the least TTL comes to of data that is left, after some
+abbrev pub least_after : Option ℕ → List Datum → ℕ
+least_after None ds = least_ttl ds
+least_after (Some ttl) ds = fold (λ (least : ℕ) (e : Datum). min least e.ttl) ttl ds
+
+-- the data that is answered of the records from a place on
+abbrev pub shown_from : List (Record RData) → ℕ → List Datum
+shown_from rs i = shown (map datum_of (drop i rs))
+
+-- the records of a negative answer, before the first
+pub negative_begins : (class : DNSClass) (owner : NameValue) (least : ℕ) (items entries records : List (Record RData))
+    → items ≡ [] → entries ≡ records → least ≡ least_ttl (shown (map datum_of entries))
+    → items ++ map (λ (d : Datum). as_negative (record_of class owner least d)) (shown_from entries 0)
+    ≡ map as_negative (records_of class owner (map datum_of records))
+negative_begins class owner least items entries records none same is =
+    ap (λ xs. xs ++ map (λ (d : Datum). as_negative (record_of class owner least d)) (shown_from entries 0)) none
+    ∙ sym (map-map as_negative (record_of class owner least) (shown (map datum_of entries)))
+    ∙ ap (λ ttl. map as_negative (map (record_of class owner ttl) (shown (map datum_of entries)))) is
+    ∙ ap (λ (xs : List (Record RData)). map as_negative (records_of class owner (map datum_of xs))) same

@@ -83,9 +83,6 @@ module _ (origin : NameValue) (m : BTreeMap RrKey SetValue) where
   IsOver n closer = (is_below origin closer ≡ true) × ((class : DNSClass)
       → encloser (z_of class) (parent closer) ≡ encloser (z_of class) (parent n))
 
-  pub over_begins : (n : NameValue) → is_below origin n ≡ true → IsOver n n
-  over_begins n h = (h, λ class. refl)
-
   -- the next end lies below the origin where it isn't the origin
   pub above_lies : (closer : NameValue) → is_below origin closer ≡ true → same_name (parent closer) origin ≡ false
       → is_below origin (parent closer) ≡ true

@@ -1,15 +1,15 @@
 -- What is answered stands in the zone.
+use Rattle.authority.proofs.CutLemmas.{found_by}
 use Rattle.authority.specs.Chain.IsChain.{ends, leads}
 use Rattle.authority.specs.Chain.{AreLed, IsChain}
-use Rattle.authority.specs.Lookup.{Alias, Cut, Data, Finding, NoName, Outside, alias_at, alias_else, alias_in, alias_or}
-use Rattle.authority.specs.Lookup.{asked, at_source, cut_else, cut_over, least_ttl, lookup, record_of, records}
-use Rattle.authority.specs.Lookup.{records_of, records_of_sets, sets_of, shown, source, target_of}
+use Rattle.authority.specs.Lookup.{Alias, Cut, Data, Finding, NoName, Outside, alias_at, alias_in, alias_or, asked}
+use Rattle.authority.specs.Lookup.{least_ttl, lookup, record_of, records, records_of, records_of_sets, sets_of, shown}
+use Rattle.authority.specs.Lookup.{source, target_of}
 use Rattle.authority.specs.Standing.{StandsInZone}
 use Rattle.base.proofs.names.KeyLemmas.{key_cmp-exact}
 use Rattle.base.specs.names.Labels.{NameValue}
 use Rattle.base.specs.names.NameOrder.{exact, lowered}
 use Rattle.base.specs.names.NameOrderLaws.{same_by-equiv}
-use Rattle.base.specs.names.Parents.{is_within}
 use Rattle.base.specs.RrKey.{key_cmp, key_of}
 use Rattle.base.specs.declared.dns_class.DNSClass.{DNSClass}
 use Rattle.base.specs.declared.record_type.RecordType.TheVariants as types
@@ -95,24 +95,8 @@ module _ (P : Record RData → Type 0) (Q : List (Record RData) → Type 0) (z :
     (alias : (s : NameValue) → source z n ≡ Some s → (r : Record RData) (target : NameValue)
     → alias_at z t n s ≡ Some (r, target) → P r)
     (others : (s : NameValue) → source z n ≡ Some s → Q (asked z t n s)) where
-  of_else : (s : NameValue) → source z n ≡ Some s → (a : Option (Record RData × NameValue)) → alias_at z t n s ≡ a
-      → OfFound P Q (alias_else a (asked z t n s))
-  of_else s e (Some (r, target)) h = alias s e r target h
-  of_else s e None h = others s e
-
-  of_source : (o : Option NameValue) → source z n ≡ o → OfFound P Q (at_source z t n o)
-  of_source None e = tt
-  of_source (Some s) e = of_else s e (alias_at z t n s) refl
-
-  of_cut : (b : Bool) (c : Option NameValue) (f : Finding) → OfFound P Q f
-      → OfFound P Q (cond b (cut_else c f) Outside)
-  of_cut false c f h = tt
-  of_cut true (Some m) f h = tt
-  of_cut true None f h = h
-
   pub of_lookup : OfFound P Q (lookup z t n)
-  of_lookup = of_cut (is_within z.origin n) (cut_over z t n) (at_source z t n (source z n))
-      (of_source (source z n) refl)
+  of_lookup = found_by z t n (OfFound P Q) tt (λ m within e. tt) (λ no_cut e. tt) alias others
 
 -- ---- owners
 
@@ -215,7 +199,7 @@ module _ (z : Zone) (t : RecordType) where
   last_stands n rs (inl none) = subst (AllByRecursion IsThere) (sym none) tt
   last_stands n rs (inr found) = subst OfThere found (found_stands n)
 
-  pub led_stand : (n : NameValue) (most : ℕ) (answers : List (Record RData)) → AreLed z t n most answers
+  pub led_stand : (n : NameValue) (most : ℕ) (answers : List (Record RData)) → AreLed z t n most [] answers
       → AllByRecursion IsThere answers
   led_stand n most answers led = subst (AllByRecursion IsThere) (sym led.answers_are)
       (all-append IsThere led.chain led.records (chain_stands n led.last led.chain led.is_chain)

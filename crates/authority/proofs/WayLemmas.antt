@@ -1,12 +1,12 @@
--- The ends of a name that lie below the origin, and the cuts there.
+-- What lies in a name, the ends of a name that lie below the origin, and the cuts there.
 use Rattle.authority.specs.Found.{IsCutSet}
-use Rattle.authority.specs.Lookup.{Cut, Finding, cut_else, cut_over, ends_below, has_servers, if_below, is_ds}
-use Rattle.authority.specs.Lookup.{name_with, way}
+use Rattle.authority.specs.Lookup.{Cut, Finding, cut_else, cut_on, cut_over, has_servers, highest_cut, if_cut, is_ds}
+use Rattle.authority.specs.Lookup.{name_with, wildcard_below}
 use Rattle.base.proofs.names.BelowLemmas.{lies_in, lies_so}
 use Rattle.base.specs.names.Labels.{NameValue}
 use Rattle.base.specs.names.NameOrder.{folded, folded_labels, lowered, same_name}
 use Rattle.base.specs.names.NameOrderLaws.{same_by-is}
-use Rattle.base.specs.names.Parents.{is_below, is_within, parent}
+use Rattle.base.specs.names.Parents.{asterisk, is_at_or_below, is_below, is_within, parent}
 use Rattle.base.specs.RecordType.{same_type}
 use Rattle.base.specs.RrKey.{key_cmp, key_of}
 use Rattle.base.specs.declared.dns_class.DNSClass.{DNSClass}
@@ -17,15 +17,13 @@ use Rattle.op_use.proofs.MapZones.{set_at}
 use Rattle.op_use.specs.Applying.{zone_of_map}
 use Rattle.op_use.specs.Zone.{Zone}
 use Rattle.rr.specs.RecordSet.{SetValue}
-use Rattle.std.proofs.Common.{ap, arith, drop, length-append, refl, rules, subst, sym, ◌++◌, ◌+◌, ◌∙◌}
+use Rattle.std.proofs.Common.{ap, append_assoc, arith, drop, length-append, refl, rules, subst, sym, ◌++◌, ◌+◌, ◌∙◌}
 use Rattle.std.proofs.lemmas.Bool.{false_from_ne_true, false≢true}
-use Rattle.std.proofs.lemmas.List.Folds.{find-append}
 use Rattle.std.specs.BTreeMap as tree
 use Rattle.std.specs.BTreeMap.{BTreeMap}
 use Rattle.std.specs.Char.{to_ascii_lowercase}
 use Rattle.std.specs.Cmp.{first_so, second_so}
 use Rattle.std.specs.Borrow.{Bor}
-use Rattle.std.specs.List.{find}
 use Rattle.std.specs.Option.{option_copied, option_or}
 use Rattle.std.specs.Prelude.{Bool, List, None, Option, Some, [], cond, false, is_some, length, map, not, suc, true, ℕ}
 use Rattle.std.specs.Prelude.{◌&&◌, ◌<◌, ◌∷◌, ◌≡◌}
@@ -34,6 +32,30 @@ use Rattle.std.specs.Prelude.{◌&&◌, ◌<◌, ◌∷◌, ◌≡◌}
 last_nil : (front labels : List (List ℕ)) → [] ≡ front ++ labels → labels ≡ []
 last_nil [] labels e = sym e
 last_nil (x ∷ front) labels e = cc
+
+-- what lies in a name that lies in another lies in that
+pub within_too : (a n b : NameValue) → is_within a n ≡ true → is_at_or_below n b ≡ true → is_at_or_below a b ≡ true
+within_too a n b w h =
+    let outer = lies_in a (lowered n) w in
+    let inner = lies_in n b h in
+    lies_so a b (record {
+      flag = outer.flag ∙ inner.flag;
+      front = inner.front ++ outer.front;
+      labels = inner.labels ∙ ap (λ (xs : List (List ℕ)). inner.front ++ xs) outer.labels
+          ∙ sym (append_assoc inner.front outer.front (folded a));
+    })
+
+pub within_itself : (a : NameValue) → is_within a a ≡ true
+within_itself a = lies_so a (lowered a) (record { flag = refl; front = []; labels = refl })
+
+pub wildcard_within : (a n : NameValue) → is_within a n ≡ true → is_within a (wildcard_below n) ≡ true
+wildcard_within a n w =
+    let lies = lies_in a (lowered n) w in
+    lies_so a (lowered (wildcard_below n)) (record {
+      flag = lies.flag;
+      front = map to_ascii_lowercase asterisk ∷ lies.front;
+      labels = ap (λ (xs : List (List ℕ)). map to_ascii_lowercase asterisk ∷ xs) lies.labels;
+    })
 
 -- a name that lies in another and isn't the same
 module _ (a : NameValue) (absolute : Bool) where
@@ -99,36 +121,27 @@ module _ (a : NameValue) (absolute : Bool) where
       ((same_by-is folded (name_with absolute
       (label ∷ labels)) a).0 t).1))
 
--- no end of a name that isn't below the origin is
-no_ends : (z : Zone) (absolute : Bool) (labels : List (List ℕ))
-    → is_below z.origin (name_with absolute labels) ≡ false → ends_below z absolute labels ≡ []
-no_ends z absolute [] h = refl
-no_ends z absolute (label ∷ labels) h =
-    let n : NameValue = name_with absolute (label ∷ labels) in
-    ap (λ xs. xs ++ if_below z n) (no_ends z absolute labels (false_from_ne_true _ (λ t. false≢true (sym h
-    ∙ below_more z.origin absolute label labels t))))
-    ∙ ap (λ b. cond b (n ∷ []) []) h
-
--- the highest cut on the way is that on the way above, or else the name's own
+-- the cuts above a name or at it: none where it doesn't lie below the origin, and else those above it, or its own
 module _ (z : Zone) where
-  abbrev pub cut_on : Bool → List (List ℕ) → Option NameValue
-  cut_on absolute labels = find (has_servers z) (ends_below z absolute labels)
+  none_on : (absolute : Bool) (labels : List (List ℕ)) → is_below z.origin (name_with absolute labels) ≡ false
+      → cut_on z absolute labels ≡ None
+  none_on absolute [] h = refl
+  none_on absolute (x ∷ labels) h =
+      let n : NameValue = name_with absolute (x ∷ labels) in
+      ap (λ o. option_or o (if_cut z n)) (none_on absolute labels (false_from_ne_true _ (λ t. false≢true (sym h
+      ∙ below_more z.origin absolute x labels t))))
+      ∙ ap (λ b. cond (b && has_servers z n) (Some n) None) h
 
-  pub no_cut_at : (n : NameValue) → is_below z.origin n ≡ false → find (has_servers z) (way z n) ≡ None
-  no_cut_at n h = ap (find (has_servers z)) (no_ends z n.absolute n.labels h)
+  pub no_cut_at : (n : NameValue) → is_below z.origin n ≡ false → highest_cut z n ≡ None
+  no_cut_at n h = none_on n.absolute n.labels h
 
-  pub one_more : (absolute : Bool) (x : List ℕ) (labels : List (List ℕ)) → cut_on absolute (x ∷ labels)
-      ≡ option_or (cut_on absolute labels) (find (has_servers z) (if_below z (name_with absolute (x ∷ labels))))
-  one_more absolute x labels =
-      find-append (has_servers z) (ends_below z absolute labels) (if_below z (name_with absolute (x ∷ labels)))
-
-  pub own_cut : (absolute : Bool) (labels : List (List ℕ)) → is_below z.origin (name_with absolute labels) ≡ true
-      → cut_on absolute labels ≡ option_or (cut_on absolute (drop 1 labels))
+  pub above_or_own : (absolute : Bool) (labels : List (List ℕ)) → is_below z.origin (name_with absolute labels) ≡ true
+      → cut_on z absolute labels ≡ option_or (cut_on z absolute (drop 1 labels))
       (cond (has_servers z (name_with absolute labels)) (Some (name_with absolute labels)) None)
-  own_cut absolute [] h = let s : Starts z.origin absolute [] = starts z.origin absolute [] h in cc
-  own_cut absolute (x ∷ labels) h = one_more absolute x labels
-      ∙ ap (λ b. option_or (cut_on absolute labels) (find (has_servers z)
-      (cond b (name_with absolute (x ∷ labels) ∷ []) []))) h
+  above_or_own absolute [] h = let s : Starts z.origin absolute [] = starts z.origin absolute [] h in cc
+  above_or_own absolute (x ∷ labels) h =
+      let n : NameValue = name_with absolute (x ∷ labels) in
+      ap (λ b. option_or (cut_on z absolute labels) (cond (b && has_servers z n) (Some n) None)) h
 
 pub or_none : {X : Type 0} (o : Option X) → option_or o None ≡ o
 or_none None = refl
@@ -147,23 +160,11 @@ cuts_or m (Some x) d o g e f = (e.0, ap (λ y. option_or y g) e.1, e.2)
 module _ (origin : NameValue) (m : BTreeMap RrKey SetValue) where
   abbrev pub IsOnWay : NameValue → NameValue → Option SetValue → Type 0
   IsOnWay n end o = (class : DNSClass) → (c : Option NameValue) × IsCutSet m c o
-      × (find (has_servers (zone_of_map origin class m)) (way (zone_of_map origin class m) n)
-      ≡ option_or (find (has_servers (zone_of_map origin class m)) (way (zone_of_map origin class m) end)) c)
-
-  pub way_begins : (n : NameValue) → IsOnWay n n None
-  way_begins n class = (
-    None,
-    refl,
-    sym (or_none (find (has_servers (zone_of_map origin class m)) (way
-        (zone_of_map origin class m) n))),
-  )
+      × (highest_cut (zone_of_map origin class m) n ≡ option_or (highest_cut (zone_of_map origin class m) end) c)
 
   module _ (class : DNSClass) where
     abbrev z : Zone
     z = zone_of_map origin class m
-
-    abbrev cut_above : NameValue → Option NameValue
-    cut_above n = find (has_servers z) (way z n)
 
     own_set : (end : NameValue) (o : Option SetValue) → tree.get key_cmp m (key_of end types.NS) ≡ o
         → IsCutSet m (cond (has_servers z end) (Some end) None) o
@@ -174,23 +175,24 @@ module _ (origin : NameValue) (m : BTreeMap RrKey SetValue) where
         (sym (set_at origin class m (key_of end types.NS) ∙ ap is_some g)) (s, refl, g)
 
     next : (n end : NameValue) (o : Option SetValue) → is_below origin end ≡ true → (c : Option NameValue)
-        → IsCutSet m c o → cut_above n ≡ option_or (cut_above end) c
-        → (g : Option SetValue) → tree.get key_cmp m (key_of end types.NS) ≡ g
-        → (d : Option NameValue) × IsCutSet m d (option_or g o) × (cut_above n ≡ option_or (cut_above (parent end)) d)
+        → IsCutSet m c o → highest_cut z n ≡ option_or (highest_cut z end) c
+        → (g : Option SetValue) → tree.get key_cmp m (key_of end types.NS) ≡ g → (d : Option NameValue)
+        × IsCutSet m d (option_or g o) × (highest_cut z n ≡ option_or (highest_cut z (parent end)) d)
     next n end o h c held e g there =
         let own = cond (has_servers z end) (Some end) None in (
           option_or own c,
           cuts_or m own c g o (own_set end g there) held,
-          e ∙ ap (λ x. option_or x c) (own_cut z end.absolute end.labels h) ∙ or_or (cut_above (parent end)) own c,
+          e ∙ ap (λ x. option_or x c) (above_or_own z end.absolute end.labels h)
+              ∙ or_or (highest_cut z (parent end)) own c,
         )
 
-    -- the highest cut on the way above a name, or else its own
+    -- the highest cut above a name, or else its own
     pub own_after : (n : NameValue) (o g : Option SetValue) → is_below origin n ≡ true
-        → IsCutSet m (cut_above (parent n)) o → tree.get key_cmp m (key_of n types.NS) ≡ g
-        → IsCutSet m (cut_above n) (option_or o g)
+        → IsCutSet m (highest_cut z (parent n)) o → tree.get key_cmp m (key_of n types.NS) ≡ g
+        → IsCutSet m (highest_cut z n) (option_or o g)
     own_after n o g h above there =
-        subst (λ c. IsCutSet m c (option_or o g)) (sym (own_cut z n.absolute n.labels h))
-        (cuts_or m (cut_above (parent n)) (cond (has_servers z n) (Some n) None) o g above (own_set n g there))
+        subst (λ c. IsCutSet m c (option_or o g)) (sym (above_or_own z n.absolute n.labels h))
+        (cuts_or m (highest_cut z (parent n)) (cond (has_servers z n) (Some n) None) o g above (own_set n g there))
 
   pub way_goes_on : (n end : NameValue) (o g : Option SetValue) → is_below origin end ≡ true
       → tree.get key_cmp m (key_of end types.NS) ≡ g → IsOnWay n end o
@@ -200,8 +202,7 @@ module _ (origin : NameValue) (m : BTreeMap RrKey SetValue) where
       next class n end o h so_far.0 so_far.1 so_far.2 g there
 
   pub way_ends : (n end : NameValue) (o : Option SetValue) → is_below origin end ≡ false → IsOnWay n end o
-      → (class : DNSClass) → IsCutSet m (find (has_servers (zone_of_map origin class m)) (way
-      (zone_of_map origin class m) n)) o
+      → (class : DNSClass) → IsCutSet m (highest_cut (zone_of_map origin class m) n) o
   way_ends n end o h on class =
       let so_far = on class in
       subst (λ c. IsCutSet m c o)
@@ -225,11 +226,10 @@ shorter a n h =
 pub ds_is : (t : RecordType) → is_ds t ≡ same_type t types.DS
 ds_is = search rules
 
--- the way that is asked for cuts
+-- the name that is asked for cuts
 pub cut_beside : (z : Zone) (t : RecordType) (n side : NameValue) (b : Bool) → is_ds t ≡ b
-    → side ≡ cond b (parent n) n → cut_over z t n ≡ find (has_servers z) (way z side)
-cut_beside z t n side b d e = ap (λ (x : NameValue). find (has_servers z) (way z x)) (ap (λ c. cond c
-    (parent n) n) d ∙ sym e)
+    → side ≡ cond b (parent n) n → cut_over z t n ≡ highest_cut z side
+cut_beside z t n side b d e = ap (highest_cut z) (ap (λ c. cond c (parent n) n) d ∙ sym e)
 
 -- what it is that a cut was found, or none
 pub cut_found : (m : BTreeMap RrKey SetValue) (c : Option NameValue) (s : SetValue) (f : Finding)

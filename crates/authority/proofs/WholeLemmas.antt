@@ -13,7 +13,7 @@ use Rattle.op.specs.Cut.{raised}
 use Rattle.op.specs.EdnsRecord.{edns_record}
 use Rattle.op.specs.Fits.{as_list, plain_queries, signature_record, with_high_bits}
 use Rattle.op.specs.Message.{MessageValue}
-use Rattle.op.specs.MessageWritten.{AreWhole, parts_of, part_within}
+use Rattle.op.specs.MessageWritten.{AreWhole, part_within, parts_of}
 use Rattle.op.specs.Query.{query_written}
 use Rattle.op.specs.declared.edns.Edns.{Edns}
 use Rattle.op.specs.declared.query.Query.{Query}
@@ -22,7 +22,7 @@ use Rattle.op.specs.declared.response_code.ResponseCode.{ResponseCode}
 use Rattle.rr.specs.Record.{record_written}
 use Rattle.rr.specs.RecordSays.{record_says}
 use Rattle.rr.specs.declared.record.Record.{Record}
-use Rattle.std.proofs.Common.{ap, arith, length, length-append, refl, ◌+◌, ◌≤◌, ◌∙◌}
+use Rattle.std.proofs.Common.{ap, arith, length, length-append, refl, ◌+◌, ◌∙◌, ◌≤◌}
 use Rattle.std.proofs.lemmas.Bool.{le-ltb}
 use Rattle.std.specs.Option.{option_map}
 use Rattle.std.specs.Prelude.{List, None, Option, Some, [], false, nat_lt, ℕ, ◌∷◌, ◌≡◌, ◌≢◌}

@@ -1,6 +1,6 @@
 -- What decides on a name in a zone.
 use Rattle.authority.specs.Answer.{AnswerValue}
-use Rattle.authority.specs.Lookup.{encloser, exists, has_servers, name_with, source, way, wildcard_below}
+use Rattle.authority.specs.Lookup.{encloser, exists, has_servers, highest_cut, name_with, source, wildcard_below}
 use Rattle.base.specs.names.Labels.{NameValue}
 use Rattle.base.specs.names.Parents.{is_at_or_below, is_below, is_within, parent}
 use Rattle.base.specs.RrKey.{key_cmp}
@@ -9,7 +9,6 @@ use Rattle.op.specs.Message.{MessageValue}
 use Rattle.op_use.specs.Zone.{Datum, Zone, is_owned}
 use Rattle.std.specs.FinMap as fin
 use Rattle.std.specs.FinMap.{FinMap}
-use Rattle.std.specs.List.{find}
 use Rattle.std.specs.Prelude.{Bool, List, Some, [], is_some, not, true, ℕ, ◌++◌, ◌≡◌}
 
 -- a zone with other sets
@@ -22,7 +21,7 @@ inside z = with_sets z (fin.retain_keys z.sets (λ (k : RrKey). is_at_or_below z
 
 -- whether a name lies strictly below a cut
 abbrev pub is_hidden : Zone → NameValue → Bool
-is_hidden z n = is_some (find (has_servers z) (way z (parent n)))
+is_hidden z n = is_some (highest_cut z (parent n))
 
 -- the zone without the sets that lie strictly below a cut
 abbrev pub above_cuts : Zone → Zone

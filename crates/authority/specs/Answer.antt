@@ -11,6 +11,7 @@ use Rattle.base_data.specs.declared.rdata.RData.TheVariants as kinds
 use Rattle.base_data.specs.declared.rdata.RData.{RData}
 use Rattle.op.specs.declared.response_code.ResponseCode.TheVariants.{NXDomain, NoError, ServFail}
 use Rattle.op.specs.declared.response_code.ResponseCode.{ResponseCode}
+use Rattle.op_use.specs.Responses.{is_empty_list}
 use Rattle.op_use.specs.Server.{is_any}
 use Rattle.op_use.specs.Zone.{Zone}
 use Rattle.rr.specs.Record.{type_of_record}
@@ -36,11 +37,6 @@ answer_value a = record {
   authorities = a.authorities.items;
   additionals = a.additionals.items;
 }
-
--- whether there are no records
-abbrev pub is_none : List (Record RData) → Bool
-is_none [] = true
-is_none (r ∷ rs) = false
 
 -- an answer with AA
 abbrev pub with_authority : ResponseCode → List (Record RData) → List (Record RData) → List (Record RData) → AnswerValue
@@ -112,7 +108,7 @@ extras z glued given rs =
 abbrev pub referring : Zone → List (Record RData) → List (Record RData) → AnswerValue
 referring z done servers = record {
   code = NoError;
-  authoritative = not (is_none done);
+  authoritative = not (is_empty_list done);
   answers = done;
   authorities = servers;
   additionals = extras z true (done ++ servers) servers;

@@ -24,16 +24,17 @@ abbrev pub AreNew : List (Record RData) → List (Record RData) → Type 0
 AreNew before [] = Unit {0}
 AreNew before (r ∷ rs) = (owns r.name before ≡ false) × AreNew (before ++ r ∷ []) rs
 
--- Answers are a chain of aliases, so many at most, of which no owner comes twice, and then the records that the zone
--- has for the last name, or none.
-pub record AreLed (z : Zone) (t : RecordType) (n : NameValue) (most : ℕ) (answers : List (Record RData)) : Type 0 where
+-- Answers after others are a chain of aliases, so many at most, of which no owner comes twice or before, and then the
+-- records that the zone has for the last name, or none.
+pub record AreLed (z : Zone) (t : RecordType) (n : NameValue) (most : ℕ) (before answers : List (Record RData))
+    : Type 0 where
   pub chain : List (Record RData)
   pub last : NameValue
   pub records : List (Record RData)
   pub answers_are : answers ≡ chain ++ records
   pub is_chain : IsChain z t n chain last
   pub short : length chain ≤ most
-  pub distinct : AreNew [] chain
+  pub distinct : AreNew before chain
   pub found : (records ≡ []) ⊎ (lookup z t last ≡ Data records)
 
 -- the authorities for what was found for a name: the SOA for no name and no data (RFC 2308, 2), the name servers of a

@@ -14,9 +14,9 @@ use Rattle.op_use.specs.Server.{is_any, is_cname}
 use Rattle.op_use.specs.Zone.{Datum, Zone, at, has_set, is_owned}
 use Rattle.rr.specs.declared.record.Record.{Record}
 use Rattle.std.specs.FinMap as fin
-use Rattle.std.specs.List.{filter, find, flat_map, fold, list_any}
+use Rattle.std.specs.List.{filter, flat_map, fold, list_any}
 use Rattle.std.specs.Option.{option_or}
-use Rattle.std.specs.Prelude.{Bool, List, None, Option, Some, [], false, if◌then◌else◌, map, min, not, true, ℕ, ◌++◌}
+use Rattle.std.specs.Prelude.{Bool, List, None, Option, Some, [], false, if◌then◌else◌, map, min, not, true, ℕ, ◌&&◌}
 use Rattle.std.specs.Prelude.{◌||◌, ◌∷◌}
 
 -- a name of these labels
@@ -31,26 +31,12 @@ exists_among n ks = list_any (λ (k : RrKey). is_at_or_below n k.name) ks
 abbrev pub exists : Zone → NameValue → Bool
 exists z n = exists_among n (fin.keys z.sets)
 
--- a name alone, where it lies below the origin
-abbrev pub if_below : Zone → NameValue → List NameValue
-if_below z n = if is_below z.origin n then n ∷ [] else []
-
--- the ends of labels that lie below the origin, shortest first
-abbrev pub ends_below : Zone → Bool → List (List ℕ) → List NameValue
-ends_below z absolute [] = []
-ends_below z absolute (label ∷ labels) =
-    ends_below z absolute labels ++ if_below z (name_with absolute (label ∷ labels))
-
--- the ends of a name that lie below the origin, shortest first
-abbrev pub way : Zone → NameValue → List NameValue
-way z n = ends_below z n.absolute n.labels
-
 -- the type DS
 abbrev pub is_ds : RecordType → Bool
 is_ds types.DS = true
 is_ds _ = false
 
--- the name whose way is asked for cuts: a DS set stands above its own cut (RFC 4035, 3.1.4.1)
+-- the name above which, or at which, cuts are asked for: a DS set stands above its own cut (RFC 4035, 3.1.4.1)
 abbrev pub side_asked : RecordType → NameValue → NameValue
 side_asked t n = if is_ds t then parent n else n
 
@@ -58,9 +44,23 @@ side_asked t n = if is_ds t then parent n else n
 abbrev pub has_servers : Zone → NameValue → Bool
 has_servers z n = has_set z (key_of n types.NS)
 
--- the highest cut on the way (RFC 1034, 4.2.1; 4.3.2, 3b)
+-- a name, where it is a cut: it lies below the origin and has name servers (RFC 1034, 4.2.1)
+abbrev pub if_cut : Zone → NameValue → Option NameValue
+if_cut z n = if is_below z.origin n && has_servers z n then Some n else None
+
+-- the shortest end of labels that is a cut
+abbrev pub cut_on : Zone → Bool → List (List ℕ) → Option NameValue
+cut_on z absolute [] = None
+cut_on z absolute (label ∷ labels) =
+    option_or (cut_on z absolute labels) (if_cut z (name_with absolute (label ∷ labels)))
+
+-- the highest cut above a name or at it
+abbrev pub highest_cut : Zone → NameValue → Option NameValue
+highest_cut z n = cut_on z n.absolute n.labels
+
+-- the highest cut on the way (RFC 1034, 4.3.2, 3b)
 abbrev pub cut_over : Zone → RecordType → NameValue → Option NameValue
-cut_over z t n = find (has_servers z) (way z (side_asked t n))
+cut_over z t n = highest_cut z (side_asked t n)
 
 -- whether a name exists, or is the origin, which does in any case
 abbrev pub encloses : Zone → NameValue → Bool

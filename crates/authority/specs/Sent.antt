@@ -1,5 +1,4 @@
 -- Which bytes a server sends for those that it received (RFC 1035, 4.2; RFC 2181, 9; RFC 6891, 6.2.5 and 7).
-use Rattle.authority.specs.Answer.{is_none}
 use Rattle.authority.specs.Reply.{framed, only_code, reply}
 use Rattle.authority.specs.declared.sending.Carrier.TheVariants as carriers
 use Rattle.authority.specs.declared.sending.Carrier.{Carrier}
@@ -13,6 +12,7 @@ use Rattle.op.specs.MessageWritten.{message_answer}
 use Rattle.op.specs.Parts.{payload_taken}
 use Rattle.op.specs.declared.header.Header.{Header}
 use Rattle.op.specs.declared.response_code.ResponseCode.TheVariants.{FormErr}
+use Rattle.op_use.specs.Responses.{is_empty_list}
 use Rattle.op_use.specs.Zone.{Zone}
 use Rattle.std.specs.Prelude.{Bool, Err, List, None, Ok, Option, Result, Some, [], if◌then◌else◌, max, min, slice_index}
 use Rattle.std.specs.Prelude.{ℕ, ◌&&◌}
@@ -39,7 +39,7 @@ is_cut_short bytes = bit_of 2 (slice_index bytes 2)
 -- The bytes of a reply, or those without additional records where they hold not all of it and it is no referral, which
 -- has authorities (RFC 2181, 9).
 abbrev pub whole_or_less : ℕ → MessageValue → Result (List ℕ) ProtoError → Result (List ℕ) ProtoError
-whole_or_less limit m (Ok bytes) = if is_cut_short bytes && is_none m.authorities
+whole_or_less limit m (Ok bytes) = if is_cut_short bytes && is_empty_list m.authorities
     then message_answer limit (record m { additionals = [] }) else Ok bytes
 whole_or_less limit m (Err e) = Err e
 

@@ -8,7 +8,7 @@ ghost use Rattle.std.specs.Prelude.{IfOk, IsOkUnless, OnOk, ◌++◌, ◌≡◌}
 use crate::found::{Found, lookup};
 use crate::records::{add_answered, add_found};
 use crate::zone_ref::ZoneRef;
-use base::{Name, ProtoError, RecordType, RrKey};
+use base::{Name, ProtoError, RecordType};
 use base_data::RData;
 use rr::Record;
 
@@ -55,8 +55,7 @@ fn add_addresses(
     if !is_referral {
         return Ok(());
     }
-    let key = RrKey::of(host, record_type)?;
-    match zone.sets.get(&key) {
+    match zone.set_at(host, record_type)? {
         Some(set) => Ok(add_answered(additionals, host, zone.class, set)?),
         None => Ok(()),
     }

@@ -141,8 +141,7 @@ fn soa_over(zone: &ZoneRef<'_>, name: &Name) -> Result<Vec<Record>, ProtoError>
     ensures value { IfOk result (λ v. v.items ≡ the_negative (zone_of zone.now) name.now) }
     ensures only { IsOkUnless result ProtoError.Memory }
 {
-    let key = RrKey::of(zone.origin, RecordType::SOA)?;
-    let Some(set) = zone.sets.get(&key) else {
+    let Some(set) = zone.set_at(zone.origin, RecordType::SOA)? else {
         return Ok(Vec::new(zone.alloc));
     };
     let owner = end_like(zone.origin, name)?;

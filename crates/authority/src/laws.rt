@@ -18,10 +18,10 @@ ghost use Rattle.base.specs.declared.rr_key.RrKey.{RrKey as Key};
 ghost use Rattle.op.specs.Message.{MessageValue};
 ghost use Rattle.op.specs.declared.query.Query.{Query as Question};
 ghost use Rattle.op.specs.declared.response_code.ResponseCode.{ResponseCode as Code};
-ghost use Rattle.op_use.specs.Applying.{IsApplied, applied, zone_of_map};
+ghost use Rattle.op_use.specs.Applying.{IsApplied, IsZoneMap, applied, zone_of_map};
 ghost use Rattle.op_use.specs.Server.{Sections};
-ghost use Rattle.rr.specs.RecordSet.{SetValue};
-ghost use Rattle.std.specs.BTreeMap.{BTreeMap as Tree, IsOrdered};
+ghost use Rattle.rr.specs.RecordSet.{IsTidy, SetValue};
+ghost use Rattle.std.specs.BTreeMap.{BTreeMap as Tree, IsOrdered, get};
 ghost use Rattle.std.specs.FinMap.{FinMap};
 ghost use Rattle.authority.specs.declared.sending.Carrier.{Carrier as Means};
 ghost use Rattle.base.specs.declared.error.proto_error.ProtoError.{ProtoError as Refusal};
@@ -34,6 +34,8 @@ ghost use Rattle.op_use.specs.Zone.{Datum, Zone};
 ghost use Rattle.std.specs.List.{AllByRecursion, IsDistinct};
 ghost use Rattle.std.specs.Prelude.{Bool, Err, List, None, Some, [], false, map, option_map, true, ℕ, ◌+◌, ◌++◌, ◌↔◌, ◌∷◌};
 ghost use Rattle.std.specs.Prelude.{◌≡◌, ◌≢◌};
+
+use op_use::apply::laws::built_updates_apply_as_named;
 
 /// Where a zone has no name, nothing stands at the name nor below it, nor at the asterisk below its closest encloser,
 /// and no cut is above it (RFC 2308, 2.1; RFC 4592, 3.3.2).
@@ -73,7 +75,7 @@ pub fn authority_is_clear_in_referrals_alone()
 /// most, and no owner of an alias comes twice (RFC 1034, 3.6.2).
 pub fn answers_are_led()
     ensures { (z : Zone) (t : Kind) (room : ℕ) (n : NameValue)
-        → AreLed z t n (room + 1) (answer z t room [] n).answers }
+        → AreLed z t n (room + 1) [] (answer z t room [] n).answers }
 {}
 
 /// The data of each answer stands in a set of the zone that is its owner's or, where nothing stands at the owner or
@@ -146,7 +148,7 @@ pub fn letter_case_changes_no_records()
 /// no data. Only ServFail is answered before, and has none (RFC 2308, 2.1 and 2.2; RFC 6604).
 pub fn the_last_name_decides()
     ensures { (z : Zone) (t : Kind) (room : ℕ) (n : NameValue)
-        → (led : AreLed z t n (room + 1) (answer z t room [] n).answers)
+        → (led : AreLed z t n (room + 1) [] (answer z t room [] n).answers)
         × EndsFor z t led.last (answer z t room [] n) }
 {}
 
@@ -175,3 +177,17 @@ pub fn records_stand_once()
     ensures replied { (z : Zone) (m r : MessageValue) → HasProperSets z → reply z m ≡ Some r
         → IsDistinct same_record (r.answers ++ (r.authorities ++ r.additionals)) }
 {}
+
+/// The sets of a zone are such as `records_stand_once` asks where each is tidy, as those of `Parser::parse` are, and
+/// what `set_records` leaves need not be; and an update keeps them so.
+pub fn sets_stay_proper()
+    ensures tidy { (origin : NameValue) (class : Class) (sets : Tree Key SetValue) → IsZoneMap class sets
+        → ((k : Key) (s : SetValue) → get key_cmp sets k ≡ Some s → IsTidy s)
+        → HasProperSets (zone_of_map origin class sets) }
+    ensures updated { (origin : NameValue) (class : Class) (s : Sections)
+        (old : Tree Key SetValue) (code : Code) (new : Tree Key SetValue)
+        → IsApplied origin class s old code new → HasProperSets (zone_of_map origin class old)
+        → HasProperSets (zone_of_map origin class new) }
+{
+    built_updates_apply_as_named();
+}

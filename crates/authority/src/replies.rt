@@ -84,9 +84,8 @@ pub(crate) fn header_refusal(query: &Message) -> Option<ResponseCode>
 fn question_refusal(
     zone: &ZoneRef<'_>,
     question: &Query,
-) -> Result<Option<ResponseCode>, ProtoError>
-    ensures value { IfOk result (λ code. code ≡ the_refusal (zone_of zone.now) question.now) }
-    ensures only { IsOkUnless result ProtoError.Memory }
+) -> Result<Option<ResponseCode>, AllocError>
+    ensures { IfOk result (λ code. code ≡ the_refusal (zone_of zone.now) question.now) }
 {
     if question.query_class != zone.class || question.mdns_unicast_response {
         return Ok(Some(ResponseCode::Refused));
@@ -104,10 +103,9 @@ fn question_refusal(
 }
 
 /// Whether the zone has an SOA.
-fn has_soa(zone: &ZoneRef<'_>) -> Result<bool, ProtoError>
-    ensures value { IfOk result (λ b. b
+fn has_soa(zone: &ZoneRef<'_>) -> Result<bool, AllocError>
+    ensures { IfOk result (λ b. b
         ≡ has_set (zone_of zone.now) (the_key zone.now.origin.now RecordType.SOA)) }
-    ensures only { IsOkUnless result ProtoError.Memory }
 {
     let key = RrKey::of(zone.origin, RecordType::SOA)?;
     Ok(zone.sets.contains_key(&key))

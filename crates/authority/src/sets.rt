@@ -1,7 +1,7 @@
 //! Searches of the sets of a zone: each takes the time of a look-up in the map, or of one for each label.
 
 ghost use Rattle.authority.specs.Found.{IsAtName, IsCutSet};
-ghost use Rattle.authority.specs.Lookup.{cut_over as the_cut, encloser, encloses as is_encloser, has_servers, way, wildcard_below};
+ghost use Rattle.authority.specs.Lookup.{cut_over as the_cut, encloser, encloses as is_encloser, highest_cut as the_highest, wildcard_below};
 ghost use Rattle.base.specs.RecordType.{same_type};
 ghost use Rattle.base.specs.names.Parents.{is_below as lies_below, is_within as lies_within, parent};
 ghost use Rattle.base.specs.RrKey.{key_cmp, key_of as the_key};
@@ -13,7 +13,7 @@ ghost use Rattle.op_use.specs.Applying.{zone_of_map};
 ghost use Rattle.op_use.specs.Zone.{is_owned};
 ghost use Rattle.std.specs.BTreeMap.{get, keys};
 ghost use Rattle.std.specs.Bool.{then_some};
-ghost use Rattle.std.specs.List.{filter, find};
+ghost use Rattle.std.specs.List.{filter};
 ghost use Rattle.std.specs.Map.{values_of};
 ghost use Rattle.std.specs.Option.{option_copied, option_or};
 ghost use Rattle.std.specs.Prelude.{IfOk, IsOkUnless, OnOk, map, true, ◌≡◌};
@@ -105,8 +105,7 @@ fn highest_cut<'z>(
 ) -> Result<Option<&'z RecordSet>, ProtoError>
     ensures value { IfOk result (λ o. (class : Class)
         → IsCutSet sets.now
-        (find (has_servers (zone_of_map origin.now class sets.now))
-        (way (zone_of_map origin.now class sets.now) name)) (option_copied o)) }
+        (the_highest (zone_of_map origin.now class sets.now) name) (option_copied o)) }
     ensures only { IsOkUnless result ProtoError.Memory }
 {
     let mut highest = None;

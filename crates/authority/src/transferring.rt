@@ -1,14 +1,14 @@
 //! Which messages a server sends for a zone transfer (RFC 5936, 2.2).
 
 ghost use Rattle.authority.specs.Reply.{framed as the_frame, header_refusal as the_header_refusal, only_code as the_code};
-ghost use Rattle.authority.specs.Transfer.{IsFull, IsNextOf, IsTooLarge, IsTransferred, axfr_refusal as the_axfr_refusal, is_end, left_at, one_axfr_refusal as the_one_refusal, room_beside as the_room, soa_of as the_soa};
+ghost use Rattle.authority.specs.Transfer.{IsFull, IsNextOf, IsTooLarge, IsTransferred, axfr_refusal as the_axfr_refusal, is_end, left_at, one_axfr_refusal as the_one_refusal, records_from, room_beside as the_room, soa_of as the_soa};
 ghost use Rattle.op.specs.Message.{message_value};
 ghost use Rattle.op_use.specs.Server.{and_then};
-ghost use Rattle.std.specs.Prelude.{IfErr, IfOk, IsOkUnless, false, option_map, ◌≡◌, ◌⊎◌};
+ghost use Rattle.std.specs.Prelude.{IfErr, IfOk, false, option_map, slice_get, ◌≡◌, ◌⊎◌};
 
 use crate::answer::plain;
 use crate::filling::Answers;
-use crate::records::add_answered;
+use crate::records::{least_ttl, record_of};
 use crate::replies::{framed, header_refusal, only_code};
 use crate::room::room_beside;
 use crate::zone_ref::ZoneRef;
@@ -131,20 +131,28 @@ fn refused(
 }
 
 /// The SOA that a transfer begins and ends with.
-fn soa_of(zone: &ZoneRef<'_>) -> Result<Option<Record>, ProtoError>
-    ensures value { IfOk result (λ o. o ≡ the_soa zone.now.origin.now zone.now.class zone.now.sets.now) }
-    ensures only { IsOkUnless result ProtoError.Memory }
+fn soa_of(zone: &ZoneRef<'_>) -> Result<Option<Record>, AllocError>
+    ensures { IfOk result (λ o. o ≡ the_soa zone.now.origin.now zone.now.class zone.now.sets.now) }
 {
-    let key = RrKey::of(zone.origin, RecordType::SOA)?;
-    let Some(set) = zone.sets.get(&key) else {
-        return Ok(None);
-    };
-    let mut records = Vec::new(zone.alloc);
-    add_answered(&mut records, set.name(), zone.class, set)?;
-    match records.first() {
-        Some(soa) => Ok(Some(soa.clone()?)),
+    match zone.set_at(zone.origin, RecordType::SOA)? {
+        Some(set) => first_answer(zone.class, set),
         None => Ok(None),
     }
+}
+
+/// The first record of a set that isn't left out.
+fn first_answer(class: DNSClass, set: &RecordSet) -> Result<Option<Record>, AllocError>
+    ensures { IfOk result (λ o. o ≡ slice_get (records_from class 0 set.now) 0) }
+{
+    let entries = set.as_slice();
+    let ttl = least_ttl(entries);
+    for entry in entries {
+        if entry.rdata.is_update() {
+            continue;
+        }
+        return Ok(Some(record_of(set.name(), class, ttl, &entry.rdata)?));
+    }
+    Ok(None)
 }
 
 /// The next message of a transfer with this SOA, and the place after it.

@@ -1,4 +1,4 @@
-use Rattle.authority.proofs.AdditionalLemmas.{extras_after}
+use Rattle.authority.proofs.AnswerLemmas.{extras_after}
 use Rattle.authority.proofs.additionals.additionals.Given as goal
 use Rattle.authority.specs.ZoneRef.{zone_of}
 use Rattle.std.proofs.Common.{[], drop, ◌++◌, ◌≡◌}

@@ -1,4 +1,4 @@
-use Rattle.authority.proofs.AliasLemmas.{alias_from, leads, leads_nowhere}
+use Rattle.authority.proofs.AnswerLemmas.{alias_from, leads, leads_nowhere}
 use Rattle.authority.proofs.SetLemmas.{no_records, records_there}
 use Rattle.authority.proofs.found.alias_at.Goals as goal
 use Rattle.authority.specs.Found.{IsAlias}

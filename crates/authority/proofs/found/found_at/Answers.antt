@@ -1,4 +1,4 @@
-use Rattle.authority.proofs.AliasLemmas.{no_alias}
+use Rattle.authority.proofs.AnswerLemmas.{no_alias}
 use Rattle.authority.proofs.SetLemmas.{all_records, no_records, records_there}
 use Rattle.authority.proofs.found.found_at.Goals as goal
 use Rattle.authority.specs.Found.{IsAlias}

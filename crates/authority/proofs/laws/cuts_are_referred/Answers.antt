@@ -1,4 +1,4 @@
-use Rattle.authority.proofs.LawLemmas.{cut_below, cut_servers, referred}
+use Rattle.authority.proofs.CutLemmas.{cut_below, cut_servers, referred}
 use Rattle.authority.proofs.laws.cuts_are_referred.Goals as goal
 
 pub returns : goal.returns

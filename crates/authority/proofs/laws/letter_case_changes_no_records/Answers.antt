@@ -1,5 +1,4 @@
-use Rattle.authority.proofs.CaseAnswers.{answers_alike, replies_alike}
-use Rattle.authority.proofs.CaseLemmas.{alike, lookups_alike}
+use Rattle.authority.proofs.CaseLemmas.{answers_alike, replies_alike, alike, lookups_alike}
 use Rattle.authority.proofs.laws.letter_case_changes_no_records.Goals as goal
 
 pub returns : goal.returns

@@ -1,4 +1,4 @@
-use Rattle.authority.proofs.OnceLaws.{answers_once, replies_once}
+use Rattle.authority.proofs.OnceLemmas.{answers_once, replies_once}
 use Rattle.authority.proofs.laws.records_stand_once.Goals as goal
 
 pub returns : goal.returns

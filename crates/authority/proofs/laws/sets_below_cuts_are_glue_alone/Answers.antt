@@ -1,5 +1,4 @@
-use Rattle.authority.proofs.HiddenLaws.{others_same, replies_same, whole_same}
-use Rattle.authority.proofs.HiddenLemmas.{lookup_same}
+use Rattle.authority.proofs.HiddenLemmas.{lookup_same, others_same, replies_same, whole_same}
 use Rattle.authority.proofs.laws.sets_below_cuts_are_glue_alone.Goals as goal
 
 pub returns : goal.returns

@@ -1,4 +1,4 @@
-use Rattle.authority.proofs.TransferLaws.{between_is}
+use Rattle.authority.proofs.SetsFromLemmas.{between_is}
 use Rattle.authority.proofs.laws.transfers_give_the_zone.Goals as goal
 
 pub returns : goal.returns

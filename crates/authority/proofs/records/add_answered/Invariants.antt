@@ -1,4 +1,4 @@
-use Rattle.authority.proofs.RecordLemmas.{shown_from}
+use Rattle.authority.proofs.SetLemmas.{shown_from}
 use Rattle.authority.proofs.records.add_answered.Given as goal
 use Rattle.authority.specs.Found.{answered}
 use Rattle.authority.specs.Lookup.{record_of}

@@ -1,4 +1,4 @@
-use Rattle.authority.proofs.RecordLemmas.{least_after, shown_from}
+use Rattle.authority.proofs.SetLemmas.{least_after, shown_from}
 use Rattle.authority.proofs.records.least_ttl.Given as goal
 use Rattle.authority.specs.Lookup.{least_ttl, shown}
 use Rattle.op_use.specs.NamedChanges.{datum_of}

@@ -1,4 +1,4 @@
-use Rattle.authority.proofs.RecordLemmas.{negative_begins}
+use Rattle.authority.proofs.SetLemmas.{negative_begins}
 use Rattle.authority.proofs.records.negative_records.Goals as goal
 
 pub loop-entry-init : goal.loop-entry-init

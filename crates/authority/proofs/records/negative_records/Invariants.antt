@@ -1,4 +1,4 @@
-use Rattle.authority.proofs.RecordLemmas.{shown_from}
+use Rattle.authority.proofs.SetLemmas.{shown_from}
 use Rattle.authority.proofs.records.negative_records.Given as goal
 use Rattle.authority.specs.Answer.{as_negative}
 use Rattle.authority.specs.Found.{answered}

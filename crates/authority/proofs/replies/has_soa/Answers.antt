@@ -6,8 +6,8 @@ use Rattle.op_use.proofs.MapZones.{set_at}
 use Rattle.std.proofs.Common.{ap, is_some, sym, ◌∙◌}
 use Rattle.std.specs.BTreeMap.{get}
 
-pub returns-clause-value : goal.returns-clause-value
-returns-clause-value c =
+pub returns : goal.returns
+returns c =
     let zone = c.args.zone.now in
     c.contains_key.ensures ∙ ap (λ (k : RrKey). is_some (get key_cmp zone.sets.now k)) c.in_ok-key.ensures
     ∙ sym (set_at zone.origin.now zone.class zone.sets.now (key_of zone.origin.now types.SOA))

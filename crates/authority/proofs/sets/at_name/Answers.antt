@@ -1,5 +1,4 @@
-use Rattle.authority.proofs.FirstKey.{first_covered, in_lower}
-use Rattle.authority.proofs.OwnSets.{none_left, walk_begins, walk_ends, walk_next}
+use Rattle.authority.proofs.OwnSets.{first_covered, in_lower, none_left, walk_begins, walk_ends, walk_next}
 use Rattle.authority.proofs.sets.at_name.Goals as goal
 use Rattle.authority.proofs.sets.at_name.Goals.{else-own, then-own}
 use Rattle.base.specs.names.NameOrder.{same_lower}

@@ -1,4 +1,4 @@
-use Rattle.authority.proofs.TransferSteps.{next_is}
+use Rattle.authority.proofs.FillingLemmas.{next_is}
 use Rattle.authority.proofs.transferring.next_message.Goals as goal
 use Rattle.authority.proofs.transferring.next_message.Goals.{in-Start, in_default}
 use Rattle.authority.specs.Answer.{with_authority}

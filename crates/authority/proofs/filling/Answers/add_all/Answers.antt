@@ -1,4 +1,4 @@
-use Rattle.authority.proofs.TransferSteps.{begins_with}
+use Rattle.authority.proofs.FillingLemmas.{begins_with}
 use Rattle.authority.proofs.filling.Answers.add_all.Goals as goal
 use Rattle.authority.specs.Filling.{Adds}
 use Rattle.base_data.specs.declared.rdata.RData.{RData}

@@ -1,4 +1,4 @@
-use Rattle.authority.proofs.TransferSteps.{last_added}
+use Rattle.authority.proofs.FillingLemmas.{last_added}
 use Rattle.authority.proofs.filling.Answers.add_last.Goals as goal
 use Rattle.authority.specs.Filling.{Adds}
 use Rattle.base_data.specs.declared.rdata.RData.{RData}

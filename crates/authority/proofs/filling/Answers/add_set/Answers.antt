@@ -1,4 +1,4 @@
-use Rattle.authority.proofs.TransferSteps.{set_adds}
+use Rattle.authority.proofs.FillingLemmas.{set_adds}
 use Rattle.authority.proofs.filling.Answers.add_set.Goals as goal
 use Rattle.authority.specs.Filling.{Adds}
 use Rattle.authority.specs.Lookup.{record_of}

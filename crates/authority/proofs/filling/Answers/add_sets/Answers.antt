@@ -1,6 +1,5 @@
-use Rattle.authority.proofs.FillingLemmas.{fills_none}
+use Rattle.authority.proofs.FillingLemmas.{fills_none, sets_add, sets_are_full, sets_skip}
 use Rattle.authority.proofs.SetsFromLemmas.{end_begins, end_goes_on}
-use Rattle.authority.proofs.TransferSteps.{sets_add, sets_are_full, sets_skip}
 use Rattle.authority.proofs.filling.Answers.add_sets.Goals as goal
 use Rattle.authority.specs.Filling.{Fills, FillsUpTo}
 use Rattle.authority.specs.Transfer.{given_from, records_from}
