@@ -21,8 +21,7 @@ use Rattle.op_use.specs.Server.{is_kept_out, is_needed, is_under, update, use_of
 use Rattle.op_use.specs.Zone.{Datum, Zone}
 use Rattle.rr.specs.Record.{record_key, type_of_record}
 use Rattle.rr.specs.RecordSet.{IsTidy, SetValue}
-use Rattle.rr.specs.SetChanges.{has_data_of, joined, replaced}
-use Rattle.rr.specs.SetUpdates.{has_data_of_one, without}
+use Rattle.rr.specs.SetChanges.{has_data_of, joined, replaced, without}
 use Rattle.rr.specs.declared.record.Record.{Record}
 use Rattle.std.proofs.Common.{ap, refl, subst, sym}
 use Rattle.std.proofs.lemmas.Bool.{cond_both}
@@ -67,10 +66,10 @@ module _ (k : RrKey) where
       (replaced_own r xs t h)
       (cond_both (list_any (has_data_of r) xs) [] (r ∷ []) AreOwn (λ a. tt) (λ a. (t, tt))))
 
-  without_own : (rs xs : List (Record RData)) → AreOwn xs → AreOwn (without rs xs)
-  without_own rs [] h = tt
-  without_own rs (x ∷ xs) h = cond_both (not (has_data_of_one rs x)) (x ∷ without rs xs) (without rs xs) AreOwn
-      (λ e. (h.0, without_own rs xs h.1)) (λ e. without_own rs xs h.1)
+  without_own : (r : Record RData) (xs : List (Record RData)) → AreOwn xs → AreOwn (without r xs)
+  without_own r [] h = tt
+  without_own r (x ∷ xs) h = cond_both (not (has_data_of r x)) (x ∷ without r xs) (without r xs) AreOwn
+      (λ e. (h.0, without_own r xs h.1)) (λ e. without_own r xs h.1)
 
   -- records of a key's type are so after an update, since what stands under the key has its type
   after_own : (u : Use) (z : Zone) (r : Record RData) (xs : List (Record RData)) → AreOwn xs
@@ -79,8 +78,8 @@ module _ (k : RrKey) where
       (λ e. joined_own r xs (ap (λ (q : RrKey). q.record_type) (same_key (record_key r) k
       (second_so (not (is_kept_out z r)) _ e))) h) (λ e. h)
   after_own OfAny z r xs h = cond_both (goes_with z r k) [] xs AreOwn (λ e. tt) (λ e. h)
-  after_own OfNone z r xs h = cond_both (not (is_needed z r) && is_under r k) (without (r ∷ []) xs) xs AreOwn
-      (λ e. without_own (r ∷ []) xs h) (λ e. h)
+  after_own OfNone z r xs h = cond_both (not (is_needed z r) && is_under r k) (without r xs) xs AreOwn
+      (λ e. without_own r xs h) (λ e. h)
   after_own OfNothing z r xs h = h
 
   all_own : (rs : List (Record RData)) (z : Zone) (xs : List (Record RData)) → AreOwn xs

@@ -335,5 +335,5 @@ pub current_entered : (index : Index) (r : Record RData) (xs ys : List (Record R
 current_entered index r xs ys b is old more =
     subst (λ (p : Bool × List (Record RData)). IsCurrent index p.1) (sym is)
     (cond_both (has_entry r xs) (false, xs) (true, joined r xs)
-      (λ (p : Bool × List (Record RData)). IsCurrent index p.1)
+    (λ (p : Bool × List (Record RData)). IsCurrent index p.1)
     (λ _. old) (λ _. more))
