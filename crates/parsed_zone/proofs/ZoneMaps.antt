@@ -17,7 +17,7 @@ use Rattle.op_use.specs.Applying.{IsZoneMap}
 use Rattle.rr.specs.RecordSet.{SetValue}
 use Rattle.txt.specs.ZoneSets.{AreKeyed, IsKeyed, ZoneSets}
 use Rattle.parsed_zone.specs.Classes.{are_sets_in, is_in, is_set_in}
-use Rattle.parsed_zone.specs.ParsedZone.{AreOfClass, MayBeUpdated}
+use Rattle.parsed_zone.specs.ParsedZone.{AreOfClass, MayBeUpdated, ParsedSetsAreTidy}
 
 in_only : (c : DNSClass) → is_in c ≡ true → c ≡ classes.IN
 in_only classes.IN h = refl
@@ -58,6 +58,10 @@ zone_map class m kept of_class = λ k s h.
       distinct =
           set_kept.tidy.distinct;
     }
+
+-- each set of a parsed zone is tidy
+pub tidy_set : ParsedSetsAreTidy
+tidy_set m kept k s h = (found IsKeyed k m.entries kept s h).tidy
 
 sets_in : (es : ZoneSets) → are_sets_in es ≡ true
     → AllByRecursion (λ (e : RrKey × SetValue). e.1.dns_class ≡ classes.IN) es

@@ -7,7 +7,7 @@ use Rattle.base.specs.declared.dns_class.DNSClass.TheVariants as classes
 use Rattle.base.specs.declared.dns_class.DNSClass.{DNSClass}
 use Rattle.base.specs.declared.rr_key.RrKey.{RrKey}
 use Rattle.op_use.specs.Applying.{IsZoneMap}
-use Rattle.rr.specs.RecordSet.{SetValue}
+use Rattle.rr.specs.RecordSet.{IsTidy, SetValue}
 use Rattle.txt.specs.ZoneSets.{AreKeyed}
 use Rattle.parsed_zone.specs.Classes.{are_sets_in}
 
@@ -20,6 +20,11 @@ AreOfClass class m = (k : RrKey) (s : SetValue) → tree.get key_cmp m k ≡ Som
 abbrev pub ParsedZonesMayBeUpdated : Type 0
 ParsedZonesMayBeUpdated = (class : DNSClass) (m : BTreeMap RrKey SetValue) → AreKeyed m.entries
     → AreOfClass class m → IsZoneMap class m
+
+-- each set is tidy of those of which the parser's clause holds
+abbrev pub ParsedSetsAreTidy : Type 0
+ParsedSetsAreTidy = (m : BTreeMap RrKey SetValue) → AreKeyed m.entries → (k : RrKey) (s : SetValue)
+    → tree.get key_cmp m k ≡ Some s → IsTidy s
 
 -- The sets are such as updates may be applied to, where all are of the class IN.
 abbrev pub MayBeUpdated : BTreeMap RrKey SetValue → Type 0
