@@ -9,9 +9,9 @@ pub fn parsed_zones_may_be_updated()
     ensures { ParsedZonesMayBeUpdated }
 {}
 
-/// Each set is tidy of those that `Parser::parse` answers (its clause `kept`): its records have its type, no two of them
-/// have equal data. So they are such as the law `sets_stay_proper` of `authority` asks, by which no record stands twice
-/// in a reply, after updates too.
+/// Each set is tidy of those that `Parser::parse` answers (its clause `kept`): its records have its type, no two of
+/// them have equal data. So they are such as the law `sets_stay_proper` of `authority` asks, by which no record stands
+/// twice in a reply, after updates too.
 pub fn parsed_sets_are_tidy()
     ensures { ParsedSetsAreTidy }
 {}
