@@ -1,4 +1,5 @@
 pub mod CopyLemmas
+pub mod IndexedLemmas
 pub mod Refusing
 pub mod names
 pub mod reading

@@ -3,7 +3,6 @@
 ghost use Rattle.base.specs.declared.limits.TheConstants.{INLINE_LABELS};
 ghost use Rattle.std.specs.Prelude.{◌≡◌, ◌≤◌, ◌++◌, [], length, take, is_ok, IfOk, IsTrue, OnErr, OnOk};
 ghost use Rattle.base.specs.names.StoredLabels.{lower_labels};
-ghost use Rattle.base.specs.names.Storage.{stored_in};
 
 mod inline;
 
@@ -12,9 +11,9 @@ use crate::limits::INLINE_LABELS;
 use std::alloc::{AllocError, Global};
 use std::marker::Model;
 
-/// For how many bytes labels that are set have room at least, where they have memory of their own. Few names have more,
-/// so that nearly all take as much, which the allocator hands out again faster than many sizes.
-const HEAP_ROOM: usize = 64;
+/// Labels that are put together in memory of their own have room by steps of so many bytes, less one. So nearly all take
+/// as much, which the allocator hands out again faster than many sizes.
+const HEAP_STEP: usize = 64;
 
 /// Where labels are.
 #[derive(Drop)]
@@ -95,7 +94,13 @@ impl Labels {
                 return Ok(());
             }
         }
-        self.storage = on_heap(self.allocator(), &bytes[..used], others, self.is_fqdn())?;
+        let bytes = if used == 0 {
+            Vec::from_slice(self.allocator(), others)?
+        } else {
+            on_heap(self.allocator(), &bytes[..used], others)?
+        };
+        let is_fqdn = self.is_fqdn();
+        self.storage = Storage::Heap { is_fqdn, bytes };
         Ok(())
     }
 
@@ -150,15 +155,16 @@ impl Labels {
 
 /// Some bytes, then others, in memory of their own. It isn't copied into each reader of names, since few are so long.
 #[inline(never)]
-fn on_heap(alloc: Global, first: &[u8], others: &[u8], is_fqdn: bool) -> Result<Storage, AllocError>
-    ensures { IfOk result (λ s. stored_in s
-        ≡ record { items = first.now ++ others.now; is_fqdn = is_fqdn }) }
+fn on_heap(alloc: Global, first: &[u8], others: &[u8]) -> Result<Vec<u8>, AllocError>
+    ensures { IfOk result (λ bytes. bytes.items ≡ first.now ++ others.now) }
 {
     let len = first.len() + others.len();
-    let mut bytes = Vec::with_capacity(alloc, len.max(HEAP_ROOM))?;
+    let mut bytes = Vec::with_capacity(alloc, len | (HEAP_STEP - 1))?;
     bytes.extend_from_slice(first)?;
-    bytes.extend_from_slice(others)?;
-    Ok(Storage::Heap { is_fqdn, bytes })
+    if !others.is_empty() {
+        bytes.extend_from_slice(others)?;
+    }
+    Ok(bytes)
 }
 
 // By hand, as of `Name`.

@@ -184,8 +184,9 @@ impl Clone for Name {
     }
 }
 
-/// The first of the labels, and the others, each with its length before it; none where there is no label.
-pub(crate) fn first_label(wire: &[u8]) -> Option<(&[u8], &[u8])>
+/// The first label of a run and the labels after it, each with its length before it; none where the run is empty. The
+/// strings of a TXT record are such a run too (RFC 1035, 3.1 and 3.3.14).
+pub fn first_label(wire: &[u8]) -> Option<(&[u8], &[u8])>
     requires { IsLabelRun wire.now }
     ensures labels { MatchOption result (labels_of wire.now ≡ [])
         (λ r. labels_of wire.now ≡ r.0.now ∷ labels_of r.1.now) }

@@ -29,19 +29,21 @@ pub record IsSame (a b : RData) : Type 0 where
   pub rank : kind_rank a ≡ kind_rank b
   pub flags : name_flags a ≡ name_flags b
 
-then_tied : (p q : Ordering) → (ordering_then p q ≡ Equal) ↔ ((p ≡ Equal) × (q ≡ Equal))
+-- the first ties, and so does the second
+pub then_tied : (p q : Ordering) → (ordering_then p q ≡ Equal) ↔ ((p ≡ Equal) × (q ≡ Equal))
 then_tied Less q = (λ h. cc, λ h. h.0)
 then_tied Equal q = (λ h. (refl, h), λ h. h.1)
 then_tied Greater q = (λ h. cc, λ h. h.0)
 
-tied_same : {K : Type 0} {R : K → K → Ordering} → IsTotalOrder R → ((x y : K) → R x y ≡ Equal → x ≡ y) → (x y : K)
+-- an order ties what is the same, where it ties nothing else
+pub tied_same : {K : Type 0} {R : K → K → Ordering} → IsTotalOrder R → ((x y : K) → R x y ≡ Equal → x ≡ y) → (x y : K)
     → (R x y ≡ Equal) ↔ (x ≡ y)
 tied_same {R = R} total exact x y = (exact x y, λ same. subst (λ z. R x z ≡ Equal) same (tied_itself total x))
 
 pub types_Decide : (a b : RecordType) → Decides (same_type a b) (a ≡ b)
 types_Decide = search rules
 
-types_tied : (a b : RecordType) → type_cmp a b ≡ Equal → a ≡ b
+pub types_tied : (a b : RecordType) → type_cmp a b ≡ Equal → a ≡ b
 types_tied a b h = (types_Decide a b).0 (keys_match type_number type_rank a b ∙ ap is_eq h)
 
 numbers_tied : (a b : ℕ) → nat_cmp a b ≡ Equal → a ≡ b

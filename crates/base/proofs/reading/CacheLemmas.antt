@@ -158,6 +158,14 @@ copied_inside used j k first own rest [] owned rested none fits is also = rw (is
     ∙ ap (λ (xs : List ℕ). (xs ++ own) ++ rest) (take_more_set first used len (omega (arith, fits)))
     ∙ same_parts (take used first) own rest len refl)
 
+-- labels that are copied on the heap, where all bytes are, in two parts, the second from a place among them
+pub copied_on_heap : (used : ℕ) (first given all now own rest : List ℕ) (place : ℕ) (new : List ℕ) → length all ≢ 0
+    → copied_bytes used first all ≡ now → rest ≡ labels_from all place
+    → new ≡ all ++ (length (own ++ rest) ∷ (own ++ rest)) → copied_bytes used given new
+    ≡ now ++ (length (own ++ labels_from now place) ∷ (own ++ labels_from now place))
+copied_on_heap used first given [] now own rest place new some view from is = absurd (some refl)
+copied_on_heap used first given (b ∷ bs) now own rest place new some view from is = rw (is, from, sym view) refl
+
 -- ---- the places by offset, one of them new
 
 inside_or : (copied places : List ℕ) → All (IsInside copied) places → (q : ℕ) → IsInside copied (get_or places q 0)

@@ -5,11 +5,9 @@ use Rattle.std.proofs.Common.{take, drop, ap, sym, ◌∙◌, subst, arith, leng
 use Rattle.std.specs.Prelude.{All, Bool, Vec, Option, Some, None, IfSome}
 use Rattle.std.specs.Bool.{Decides}
 use Rattle.std.specs.BTreeMap.{BTreeMap, UpdatesBy}
-use Rattle.std.specs.Cmp.{eq_by_cmp_equiv}
-use Rattle.std.specs.Cmp.Lexicographic.{slice_cmp, nat_list_cmp_total, bytes_decides}
+use Rattle.std.specs.Cmp.Lexicographic.{slice_cmp, bytes_decides}
 use Rattle.std.specs.List.{AllPairs}
-use Rattle.std.specs.Map.{KeepsOthers, AreApart}
-use Rattle.std.specs.Ordering.{nat_cmp, is_eq}
+use Rattle.std.specs.Ordering.{nat_cmp}
 use Rattle.std.specs.Str.{bytes_eq}
 use Rattle.std.specs.declared.alloc.Global.{Global}
 use Rattle.std.proofs.lemmas.Bool.{cases_Bool, false≢true}
@@ -18,7 +16,6 @@ use Rattle.std.proofs.lemmas.List.{take-append-le, take-append-drop, take_all}
 use Rattle.std.proofs.Math.Seq.{drop-append_seam}
 use Rattle.std.proofs.lemmas.List.Elements.{All-nil, All-cons, All-drop, All-pop, All-push}
 use Rattle.std.proofs.lemmas.List.Quantifiers.{all_pairs_push}
-use Rattle.std.proofs.lemmas.Map.Text.{is_eq-slice_cmp}
 use Rattle.base.specs.names.Labels.{IsLabelRun, wire_of}
 use Rattle.base.specs.names.NameOrder.{same_labels}
 use Rattle.base.specs.names.NameOrderLaws.{labels_decide}
@@ -27,6 +24,7 @@ use Rattle.base.specs.writing.State.{Stored}
 use Rattle.base.specs.Keys.{indexed_at}
 use Rattle.base.specs.writing.Suffixes.{index_key, offset_in, IsTable}
 use Rattle.base.specs.writing.Written.{found_in}
+use Rattle.base.proofs.IndexedLemmas.{place_here, place_others}
 use Rattle.base.proofs.names.LabelLemmas.{labels_of-wire_of, labels_of_is}
 
 -- what a test decides is so or not
@@ -95,21 +93,10 @@ module _ {bs : List ℕ} {w : Option ℕ} (m n : BTreeMap (Vec ℕ Global) ℕ) 
     (key : bs ≡ index_key (wire_of u.labels))
     (h : UpdatesBy (λ x y. slice_cmp nat_cmp x.items y.items) (λ k. slice_cmp nat_cmp bs k.items) m n w) where
   here : offset_in n (wire_of u.labels) ≡ w
-  here = ap (indexed_at n) (sym key) ∙ h.1
-
-  apart : (cs : List ℕ) → cs ≢ bs → AreApart (λ (k : Vec ℕ Global). is_eq (slice_cmp nat_cmp bs k.items))
-      (λ k. is_eq (slice_cmp nat_cmp cs k.items))
-  apart cs other k at = elim (cases_Bool (is_eq (slice_cmp nat_cmp cs k.items))) [
-    | inr differ ↦ differ
-    | inl equal ↦ absurd (other ((bytes_decides cs k.items).0 (sym (is_eq-slice_cmp cs k.items) ∙ equal)
-        ∙ sym ((bytes_decides bs k.items).0 (sym (is_eq-slice_cmp bs k.items) ∙ at))))
-  ]
+  here = ap (indexed_at n) (sym key) ∙ place_here bs m n w h
 
   elsewhere : (cs : List ℕ) → cs ≢ wire_of u.labels → offset_in n cs ≡ offset_in m cs
-  unfolding KeepsOthers
-  elsewhere cs other = h.3 (λ k. is_eq (slice_cmp nat_cmp (index_key cs) k.items))
-      (λ x y. (eq_by_cmp_equiv nat_list_cmp_total).congr (index_key cs) x.items y.items)
-      (apart (index_key cs) (λ same. other (ap (drop 4) (same ∙ key))))
+  elsewhere cs other = place_others bs m n w h (index_key cs) (λ same. other (ap (drop 4) (same ∙ key)))
 
   -- so it finds at all labels what is found in a list that differs as it does
   finds_after : (old new : List Stored) → w ≡ found_in new u.labels

@@ -1,18 +1,16 @@
 //! The labels at the offsets that compression pointers led to (RFC 1035, 4.1.4).
 
 ghost use Rattle.base.specs.declared.limits.TheConstants.{MAX_LABELS};
-ghost use Rattle.std.specs.Prelude.{◌≡◌, ◌≢◌, ℕ, List, ◌+◌, ◌++◌, ◌<◌, ◌≤◌, None, Some, All, length, get_or, IfOk, IfSome, OnErr, OnOk, option_map};
+ghost use Rattle.std.specs.Prelude.{◌≡◌, ℕ, List, ◌+◌, ◌++◌, ◌<◌, ◌≤◌, None, Some, All, length, get_or, IfOk, IfSome, OnErr, OnOk, option_map};
 ghost use Rattle.std.specs.FinMap as map;
 ghost use Rattle.base.specs.declared.wire.pointer_cache.TargetLabels.TheVariants.{Copied};
 ghost use Rattle.base.specs.declared.wire.pointer_cache.TheConstants.{ROOM};
-ghost use Rattle.std.specs.Option.{option_or};
 ghost use Rattle.std.specs.Ordering.{nat_cmp};
-ghost use Rattle.base.specs.reading.Pointers.{labels_from, labels_in, target_entries, first_of, AreThere, AreUpTo, IsInside, IsLonger, IsTargetThere, cache_of, kept_after, rest_labels, with_copied, labels_now, target_labels};
+ghost use Rattle.base.specs.reading.Pointers.{labels_from, first_of, AreThere, AreUpTo, IsInside, IsLonger, IsTargetThere, cache_of, kept_after, rest_labels, labels_now, target_labels};
 
 mod copied;
 
-use crate::limits::MAX_LABELS;
-use crate::wire::pointer_cache::copied::CopiedLabels;
+use crate::wire::pointer_cache::copied::{CopiedLabels, copied_at};
 use std::alloc::{AllocError, Global};
 use std::marker::Model;
 
@@ -85,16 +83,6 @@ impl<'a> Model for PointerCache<'a> {
         × All (IsTargetThere c.copies.bytes) (first_of c.first)) };
 }
 
-/// The labels at a place among copied ones.
-fn copied_at(copied: &[u8], place: usize) -> &[u8]
-    requires some { place ≢ 0 }
-    requires there { IsInside copied.now place }
-    ensures { result.now ≡ labels_from copied.now place }
-{
-    let len = usize::from(copied[place - 1]);
-    &copied[place..place + len]
-}
-
 /// The place of an offset, and 0 for none.
 #[inline(always)]
 fn place_at(places: &[usize], offset: usize) -> usize
@@ -157,23 +145,6 @@ fn reach(places: &mut Vec<usize>, offset: usize, most: usize) -> Result<(), Allo
     Ok(())
 }
 
-/// Copies labels of the message and those at a place after them, and answers the place of the copy.
-fn append_copied(own: &[u8], place: usize, bytes: &mut CopiedLabels) -> Result<usize, AllocError>
-    requires some { place ≢ 0 }
-    requires there { IsInside bytes.old place }
-    requires short { length (own.now ++ labels_from bytes.old place) ≤ MAX_LABELS }
-    ensures place { IfOk result (λ place. place ≡ length bytes.old + 1) }
-    ensures ok { OnOk result (bytes.new
-        ≡ with_copied bytes.old (own.now ++ labels_from bytes.old place)) }
-    ensures err { OnErr result (bytes.new ≡ bytes.old) }
-{
-    let mut room = [0; MAX_LABELS];
-    let labels = copied_at(bytes.as_slice(), place);
-    let len = labels.len();
-    room[..len].copy_from_slice(labels);
-    bytes.append(own, &room[..len])
-}
-
 /// Where labels of the message are with the rest of them, if there is any: where the rest is if that is all, and else in
 /// a copy of both.
 #[inline(always)]
@@ -198,7 +169,7 @@ fn joined<'a>(
     }
     let place = match rest {
         TargetLabels::Lent(labels) => bytes.append(own, labels)?,
-        TargetLabels::Copied(place) => append_copied(own, place, bytes)?,
+        TargetLabels::Copied(place) => bytes.append_before(own, place)?,
     };
     Ok(TargetLabels::Copied(place))
 }

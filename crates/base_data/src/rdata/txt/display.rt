@@ -4,7 +4,7 @@ ghost use Rattle.std.specs.Prelude.{◌≡◌, ◌++◌, [], ◌∷◌, Some, if
 ghost use Rattle.base_data.specs.TXT.{string_byte, string_text, txt_text};
 
 use crate::rdata::txt::TXT;
-use crate::rdata::txt::strings::first_string;
+use base::name::first_label;
 use std::fmt;
 
 /// The text of a byte of a string.
@@ -56,7 +56,7 @@ impl fmt::Display for TXT {
     /// backslash before `"` and `\`; others as a backslash and three decimal digits (RFC 1035, 5.1).
     fn fmt<W: fmt::Write>(&self, f: &mut fmt::Formatter<W>) -> fmt::Result {
         let mut rest = self.as_wire();
-        while let Some((string, tail)) = first_string(rest) {
+        while let Some((string, tail)) = first_label(rest) {
             let is_last = tail.is_empty();
             fmt::Display::fmt(&StringText { string, is_last }, f)?;
             rest = tail;

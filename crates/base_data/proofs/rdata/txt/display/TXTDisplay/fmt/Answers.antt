@@ -12,7 +12,7 @@ loop-string-preserved g c =
             _,
             has_written_append _ _ _ _ _ _ before.1
                 (c.in_ok-fmt.ensures.writes before.1.plain (refl {a = true})),
-            txt_text-step before.0 before.2 c.in-Some.ensures.strings c.in-Some.ensures.others
+            txt_text-step before.0 before.2 c.in-Some.ensures.labels c.in-Some.ensures.others
                 c.is_empty-is_last.ensures,
           );
     }
@@ -20,4 +20,4 @@ loop-string-preserved g c =
 pub returns-clause-writes : goal.returns-clause-writes
 returns-clause-writes g c = λ plain ok.
     let before = c.loop-string.invariant.written plain in
-    has_written_of_eq _ _ _ _ _ (txt_text_is before.0 _ c.args.self.now before.2 c.in_default.ensures.strings) before.1
+    has_written_of_eq _ _ _ _ _ (txt_text_is before.0 _ c.args.self.now before.2 c.in_default.ensures.labels) before.1
