@@ -23,5 +23,6 @@ mod ServerRowsLemmas
 mod SettleSteps
 pub mod TypeSteps
 mod UpdateSteps
+pub mod WalkSteps
 mod WholeSteps
 mod ZoneSteps

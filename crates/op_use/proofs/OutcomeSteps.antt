@@ -1,6 +1,6 @@
 -- What updates make of a zone, by what those of each owner make of its sets.
 use Rattle.base.specs.names.Labels.{NameValue}
-use Rattle.base.specs.names.NameOrder.{exact, folded, lowered}
+use Rattle.base.specs.names.NameOrder.{exact, folded, lowered, name_cmp}
 use Rattle.base.specs.names.NameOrderLaws.{same_by-equiv}
 use Rattle.base.specs.RrKey.{key_cmp}
 use Rattle.base.specs.declared.record_type.RecordType.TheVariants as types
@@ -13,7 +13,7 @@ use Rattle.op_use.proofs.MapZones.{get_zone}
 use Rattle.op_use.proofs.ZoneSteps.{same_key}
 use Rattle.op_use.proofs.OwnerParts.{Agrees, of_owner, own_beside, own_named, own_updates, owns_named, records_same}
 use Rattle.op_use.proofs.OwnerParts.{records_stay}
-use Rattle.op_use.proofs.OwnerRuns.{Ascends, IsRun, Starts, beside, irreflexive, own_is, run}
+use Rattle.op_use.proofs.OwnerRuns.{Ascends, IsBefore, IsRun, Starts, beside, irreflexive, own_is, run}
 use Rattle.op_use.proofs.OwnerRuns.{of_owner as of_run}
 use Rattle.op_use.specs.AppliedRecords.{records_after}
 use Rattle.op_use.specs.Applying.{IsZoneMap, KeepsSame, data_in_set, names_owner, records_at, records_in}
@@ -22,6 +22,8 @@ use Rattle.op_use.specs.HeldZone.{HeldZone, zone_held}
 use Rattle.op_use.specs.MapUpdates.{IsAfter, IsLeft, IsUpdated, Opens, has_key, names_set}
 use Rattle.op_use.specs.Outcome.{Change, FitsThere, HasNothing, Installs, IsOutcome, IsSettled, Leaves, Settles}
 use Rattle.op_use.specs.Outcome.{SettlesAt, UpdatesOwner, UpdatesTo, change_at, changed, each, found, no_change}
+use Rattle.op_use.proofs.WalkSteps.{IsAhead, ahead_of}
+use Rattle.op_use.specs.OwnerWalk.{HasFrom, least}
 use Rattle.op_use.specs.Zone.{is_owned}
 use Rattle.op_use.specs.declared.apply.outcome.Outcome.{Outcome}
 use Rattle.rr.specs.RecordSet.{SetValue}
@@ -41,6 +43,7 @@ use Rattle.std.specs.List.{filter, prefix_len}
 use Rattle.std.specs.Ordering.{eq_by_cmp}
 use Rattle.std.specs.Prelude.{Bool, List, None, Option, Some, [], cond, false, is_some, not, option_map, true}
 use Rattle.std.specs.Prelude.{ℕ, ◌&&◌, ◌++◌, ◌+◌, ◌-◌, ◌<◌, ◌≤◌, ◌||◌, ◌∷◌, ◌≡◌, ◌≢◌}
+use Rattle.std.specs.declared.cmp.Ordering.TheVariants.{Less}
 
 -- ---- a set that is settled
 
@@ -337,6 +340,9 @@ module _ (rs : List (Record RData)) (z : HeldZone) where
     pub ascends_next : Ascends (drop k rest)
     ascends_next = front.2
 
+    pub before_next : IsBefore n (drop k rest)
+    before_next = front.3
+
     pub some_here : 0 < k
     some_here = subst (λ us. 0 < prefix_len (of_run n) us) (sym is)
         (subst (λ b. 0 < cond b (1 + prefix_len (of_run n) more) 0) (sym ((same_by-equiv folded).refl n)) (omega arith))
@@ -365,6 +371,10 @@ module _ (rs : List (Record RData)) (z : HeldZone) where
     h_here : IsGathered part o
     h_here = subst (λ us. IsGathered us o) (sym part_is) h
 
+    pub step_ahead : (left : List (RrKey × SetValue)) → IsAhead z.sets (drop done xs) left
+        → HasFrom (least at.now.name) z.sets left
+    step_ahead left ahead = subst (λ us. IsAhead z.sets us left) (sym part_is ∙ head) ahead
+
     module _ (counted : count ≡ prefix_len (of_run at.now.name) part) where
       pub step_names : (q : RrKey) → names_owner (each (take count part)) q ≡ true → is_owned at.now.name q ≡ true
       step_names q e = gathered_names at (drop (0 + 1) part) part head o up_here h_here q
@@ -373,9 +383,12 @@ module _ (rs : List (Record RData)) (z : HeldZone) where
       pub step_new : (q : RrKey) → is_owned at.now.name q ≡ true → HasNothing o q
       step_new q e = gathered_new at (drop (0 + 1) part) part head o up_here h_here q e
 
-      pub step_next : (next : Outcome) → UpdatesOwner at.now.name (each (take count part)) z o next
+      pub step_next : (next : Outcome) (left : List (RrKey × SetValue))
+          → UpdatesOwner at.now.name (each (take count part)) z o next
+          → ((later : NameValue) → name_cmp at.now.name later ≡ Less → HasFrom (least later) z.sets left)
           → (done + count ≤ length xs) × Ascends (drop (done + count) xs) × IsGathered (drop (done + count) xs) next
-      step_next next did =
+          × IsAhead z.sets (drop (done + count) xs) left
+      step_next next left did walked =
           let drops : drop (prefix_len (of_run at.now.name) part) part ≡ drop (done + count) xs =
           ap (drop (prefix_len (of_run at.now.name) part)) part_is
           ∙ drop-drop (prefix_len (of_run at.now.name) part) done xs ∙ ap (λ k. drop (done + k) xs) (sym counted) in (
@@ -384,6 +397,9 @@ module _ (rs : List (Record RData)) (z : HeldZone) where
             subst (λ us. IsGathered us next) drops
                 (gathered_next at (drop (0 + 1) part) part head o up_here h_here next
                 (subst (λ k. UpdatesOwner at.now.name (each (take k part)) z o next) counted did)),
+            ahead_of z.sets at.now.name (drop (done + count) xs) left
+                (subst (IsBefore at.now.name) drops (before_next at (drop (0 + 1) part) part head o up_here h_here))
+                walked,
           )
 
       pub step_smaller : length xs - (done + count) < length xs - done

@@ -3,10 +3,11 @@ use Rattle.base.specs.names.Labels.{NameValue}
 use Rattle.base.specs.names.NameOrder.{exact, lower_cmp, lowered}
 use Rattle.base.specs.names.NameOrderLaws.{cmp_by-total, same_by-tie}
 use Rattle.base.specs.RecordType.{type_cmp, type_number, type_rank}
-use Rattle.base.specs.RrKey.{key_cmp, key_of}
+use Rattle.base.specs.RrKey.{key_cmp}
 use Rattle.base.specs.declared.record_type.RecordType.TheVariants as types
 use Rattle.base.specs.declared.record_type.RecordType.{RecordType}
 use Rattle.base.specs.declared.rr_key.RrKey.{RrKey}
+use Rattle.op_use.specs.OwnerWalk.{least}
 use Rattle.op_use.specs.Zone.{is_owned}
 use Rattle.std.proofs.Common.{ap, append_assoc, arith, refl, sym, ◌++◌, ◌∙◌}
 use Rattle.std.proofs.lemmas.Bool.{cond-false, cond-true}
@@ -23,10 +24,6 @@ use Rattle.std.specs.Prelude.{Bool, List, [], cond, false, true, ℕ, ◌&&◌, 
 use Rattle.std.specs.declared.cmp.Ordering.TheVariants.{Equal, Greater, Less}
 use Rattle.std.specs.declared.cmp.Ordering.{Ordering}
 use Rattle.std.specs.declared.ops.Bound.TheVariants.{Included, Unbounded}
-
--- the least key of an owner
-abbrev pub least : NameValue → RrKey
-least owner = key_of owner types.ZERO
 
 not_below : (n : ℕ) (o : Ordering) → MatchOrdering o (0 < n) (0 ≡ n) (n < 0) → is_le o ≡ true
 not_below n Less h = refl
@@ -53,9 +50,13 @@ by_name Greater t = refl
 abbrev against : NameValue → RrKey → Ordering
 against owner k = lower_cmp (lowered owner) k.name
 
--- whether a key is at the least of an owner or after it
+-- whether a key is another or after it
+abbrev pub from : RrKey → RrKey → Bool
+from k q = range_contains key_cmp (Included k) Unbounded q
+
+-- the same of the least of an owner
 abbrev pub is_from : NameValue → RrKey → Bool
-is_from owner k = range_contains key_cmp (Included (least owner)) Unbounded k
+is_from owner = from (least owner)
 
 pub from_is : (owner : NameValue) (k : RrKey) → is_from owner k ≡ is_le (against owner k)
 from_is owner k = and-true (is_le (key_cmp (least owner) k)) ∙ by_name (against owner k) k.record_type
@@ -167,25 +168,25 @@ module _ (owner : NameValue) (p : RrKey → Bool) {X : Type 0} where
         rest : Bool
         rest = list_any (passes owner p) (keys_of (take_while (owned_entry owner) es))
 
+-- the keys of entries whose keys pass a test
+pub filtered_keys : {X : Type 0} (p : RrKey → Bool) (es : List (RrKey × X))
+    → keys_of (filter (λ e. p e.0) es) ≡ filter p (keys_of es)
+filtered_keys p [] = refl
+filtered_keys p (e ∷ es) = step (p e.0) ∙ ap (λ ks. cond (p e.0) (e.0 ∷ ks) ks) (filtered_keys p es) where
+  step : (b : Bool) → keys_of (cond b (e ∷ filter (λ f. p f.0) es) (filter (λ f. p f.0) es))
+      ≡ cond b (e.0 ∷ keys_of (filter (λ f. p f.0) es)) (keys_of (filter (λ f. p f.0) es))
+  step true = refl
+  step false = refl
+
 -- all keys of an owner
 module _ (owner : NameValue) {X : Type 0} where
-  owned_keys : (es : List (RrKey × X)) → keys_of (filter (owned_entry owner) es) ≡ filter (λ k. is_owned owner k)
-      (keys_of es)
-  owned_keys [] = refl
-  owned_keys (e ∷ es) = step (is_owned owner e.0)
-      ∙ ap (λ ks. cond (is_owned owner e.0) (e.0 ∷ ks) ks) (owned_keys es) where
-        step : (b : Bool) → keys_of (cond b (e ∷ filter (owned_entry owner) es) (filter (owned_entry owner) es))
-            ≡ cond b (e.0 ∷ keys_of (filter (owned_entry owner) es)) (keys_of (filter (owned_entry owner) es))
-        step true = refl
-        step false = refl
-
   pub all_start : (k : RrKey) (s es : List (RrKey × X)) (found : List RrKey) → found ≡ [] → k ≡ least owner
       → IsStrictlySortedBy key_cmp (keys_of es)
       → s ≡ entries_between key_cmp (Included k) Unbounded es
       → found ++ keys_of (take_while (owned_entry owner) s) ≡ filter (λ k. is_owned owner k) (keys_of es)
   all_start k s es found none e ordered h =
       ap (λ ks. ks ++ keys_of (take_while (owned_entry owner) s)) none
-      ∙ ap keys_of (starts owner (λ k. true) k s es e ordered h) ∙ owned_keys es
+      ∙ ap keys_of (starts owner (λ k. true) k s es e ordered h) ∙ filtered_keys (is_owned owner) es
 
   pub all_here : {s es : List (RrKey × X)} {e : RrKey × X} {more ks : List RrKey} (found : List RrKey)
       → more ≡ found ++ e.0 ∷ [] → s ≡ e ∷ es → is_owned owner e.0 ≡ true

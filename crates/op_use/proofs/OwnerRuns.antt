@@ -22,7 +22,7 @@ use Rattle.std.specs.Prelude.{⊤, ℕ, ◌||◌}
 use Rattle.std.specs.declared.cmp.Ordering.TheVariants.{Equal, Greater, Less}
 use Rattle.std.specs.declared.cmp.Ordering.{Ordering}
 
-abbrev Update : Type 0
+abbrev pub Update : Type 0
 Update = Bor (Record RData)
 
 -- whether an update is of an earlier owner than another
@@ -103,20 +103,25 @@ module _ (n : NameValue) where
   pub irreflexive : is_lt (name_cmp n n) ≡ false
   irreflexive = ap is_lt (tied_itself (cmp_by-total folded) n)
 
+  -- an update of a later owner comes first, if any
+  abbrev pub IsBefore : List Update → Type 0
+  IsBefore [] = ⊤
+  IsBefore (r ∷ rs) = name_cmp n r.now.name ≡ Less
+
   -- they stand in front
   abbrev pub IsRun : List Update → ℕ → Type 0
-  IsRun rs k = (own rs ≡ each (take k rs)) × (own (drop k rs) ≡ []) × Ascends (drop k rs)
+  IsRun rs k = (own rs ≡ each (take k rs)) × (own (drop k rs) ≡ []) × Ascends (drop k rs) × IsBefore (drop k rs)
 
   pub run : (rs : List Update) → Ascends rs → Starts rs → IsRun rs (prefix_len of_owner rs)
-  run [] up from = (refl, refl, tt)
+  run [] up from = (refl, refl, tt, tt)
   run (r ∷ rs) up from = by (of_owner r) refl (λ e. run rs (tail r rs up) (next r rs e up)) where
     by : (b : Bool) → of_owner r ≡ b → (of_owner r ≡ true → IsRun rs (prefix_len of_owner rs))
         → IsRun (r ∷ rs) (cond b (1 + prefix_len of_owner rs) 0)
     by true e more = subst (IsRun (r ∷ rs)) (one_more (prefix_len of_owner rs))
-        (cond-true _ _ _ e ∙ ap (λ xs. r.now ∷ xs) (more e).0, (more e).1, (more e).2)
+        (cond-true _ _ _ e ∙ ap (λ xs. r.now ∷ xs) (more e).0, (more e).1, (more e).2, (more e).3)
     by false e more =
         let none : own (r ∷ rs) ≡ [] = cond-false _ _ _ e ∙ none_later r rs (after r from e) up in
-        (none, none, up)
+        (none, none, up, after r from e)
 
   -- ---- by keys
 

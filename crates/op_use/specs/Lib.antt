@@ -9,6 +9,7 @@ pub mod MapFaults
 pub mod MapUpdates
 pub mod NamedChanges
 pub mod Outcome
+pub mod OwnerWalk
 pub mod RaisedSerial
 pub mod Responses
 pub mod SerialMessage

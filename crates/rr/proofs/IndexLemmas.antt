@@ -3,16 +3,13 @@ use Rattle.std.proofs.Common.{ℕ, zero, suc, Bool, true, false, List, [], ◌�
 use Rattle.std.proofs.Common.{◌⊎◌, inl, inr, refl, sym, ap, subst, ◌∙◌, length, set, arith, take, drop}
 use Rattle.std.proofs.Common.{get_or, if◌then◌else◌}
 use Rattle.std.specs.Prelude.{Option, Some, None, Vec, is_some}
-use Rattle.std.specs.BTreeMap.{BTreeMap, UpdatesBy}
-use Rattle.std.specs.Cmp.{eq_by_cmp_equiv, second_so}
-use Rattle.std.specs.Cmp.Lexicographic.{slice_cmp, nat_list_cmp_total, bytes_decides}
+use Rattle.std.specs.BTreeMap.{BTreeMap}
+use Rattle.std.specs.Cmp.{second_so}
+use Rattle.std.specs.Cmp.Lexicographic.{bytes_decides}
 use Rattle.std.specs.Int.{to_be_bytes, w16, w32}
 use Rattle.std.specs.List.{list_any, slice_get}
-use Rattle.std.specs.Map.{KeepsOthers, AreApart}
-use Rattle.std.specs.Ordering.{nat_cmp, is_eq}
 use Rattle.std.specs.declared.alloc.Global.{Global}
-use Rattle.std.proofs.lemmas.Bool.{cases_Bool, cond_both, false_from_ne_true, or_parts, true≢false}
-use Rattle.std.proofs.lemmas.Map.Text.{is_eq-slice_cmp}
+use Rattle.std.proofs.lemmas.Bool.{cond_both, false_from_ne_true, or_parts, true≢false}
 use Rattle.std.proofs.lemmas.Option.{same_Some, slice_get-get_or, slice_get_within}
 use Rattle.std.proofs.lemmas.List.Folds.{list_any-append, list_any_none}
 use Rattle.std.proofs.Math.Bool.{or-false}
@@ -220,25 +217,6 @@ module _ (find : List ℕ → Option ℕ) (stands : Stands) (r : Record RData) (
       → same_data x.rdata r.rdata ≡ false
   not_there p found other i x s = false_from_ne_true _ (λ same. true≢false
       (sym same ∙ other x (subst (λ j. stands j x) (sym (same_Some p i (found ∙ equal_at i x s same))) s)))
-
--- a change of the index at one key leaves what is found at others
-module _ (bs : List ℕ) (m n : BTreeMap (Vec ℕ Global) ℕ) (w : Option ℕ)
-    (h : UpdatesBy (λ x y. slice_cmp nat_cmp x.items y.items) (λ k. slice_cmp nat_cmp bs k.items) m n w) where
-  apart : (cs : List ℕ) → cs ≢ bs → AreApart (λ (k : Vec ℕ Global). is_eq (slice_cmp nat_cmp bs k.items))
-      (λ k. is_eq (slice_cmp nat_cmp cs k.items))
-  apart cs other k at = elim (cases_Bool (is_eq (slice_cmp nat_cmp cs k.items))) [
-    | inr differ ↦ differ
-    | inl equal ↦ absurd (other ((bytes_decides cs k.items).0 (sym (is_eq-slice_cmp cs k.items) ∙ equal)
-        ∙ sym ((bytes_decides bs k.items).0 (sym (is_eq-slice_cmp bs k.items) ∙ at))))
-  ]
-
-  pub place_others : (cs : List ℕ) → cs ≢ bs → indexed_at n cs ≡ indexed_at m cs
-  unfolding KeepsOthers
-  place_others cs other = h.3 (λ k. is_eq (slice_cmp nat_cmp cs k.items))
-      (λ x y. (eq_by_cmp_equiv nat_list_cmp_total).congr cs x.items y.items) (apart cs other)
-
-  pub place_here : indexed_at n bs ≡ w
-  place_here = h.1
 
 -- a record more, after the others
 pub pushed : (m n : BTreeMap (Vec ℕ Global) ℕ) (xs zs : List (Record RData)) (r : Record RData) (ks : List ℕ) (p : ℕ)

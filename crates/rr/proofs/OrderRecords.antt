@@ -1,46 +1,30 @@
 -- Which records the canonical order ties.
-use Rattle.std.proofs.Common.{◌≡◌, Bool, refl, ap, sym, ◌∙◌, subst, rules}
+use Rattle.std.proofs.Common.{◌≡◌, Bool, ap, sym, ◌∙◌, rules}
 use Rattle.std.specs.Prelude.{IsTrue, ◌↔◌}
 use Rattle.std.proofs.lemmas.Map.Lookups.{exact_unsigned}
-use Rattle.std.specs.Cmp.{Equal-is, IsTotalOrder, nat_cmp_total, tied_itself}
+use Rattle.std.specs.Cmp.{Equal-is, nat_cmp_total}
 use Rattle.std.specs.Cmp.Rules.{comparing}
-use Rattle.std.specs.Ordering.{is_eq, nat_cmp, ordering_then}
+use Rattle.std.specs.Ordering.{is_eq, nat_cmp}
 use Rattle.std.specs.declared.cmp.Ordering.{Ordering}
-use Rattle.std.specs.declared.cmp.Ordering.TheVariants.{Less, Equal, Greater}
+use Rattle.std.specs.declared.cmp.Ordering.TheVariants.{Equal}
 use Rattle.base.specs.DNSClass.{class_cmp}
 use Rattle.base.specs.names.NameOrder.{folded, name_cmp, same_name}
 use Rattle.base.specs.names.NameOrderLaws.{same_by-tie}
-use Rattle.base.specs.Keys.{keys_match}
-use Rattle.base.specs.RecordType.{type_cmp, type_number, type_rank}
+use Rattle.base.specs.RecordType.{type_cmp}
 use Rattle.base.specs.declared.dns_class.DNSClass.{DNSClass}
-use Rattle.base.specs.declared.record_type.RecordType.{RecordType}
 use Rattle.base_data.specs.Kinds.{KeptData, type_of_data}
 use Rattle.base_data.specs.DataOrder.{data_cmp}
 use Rattle.base_data.proofs.DataTies.{data_ties}
-use Rattle.base_data.proofs.SameData.{types_Decide}
+use Rattle.base_data.proofs.SameData.{then_tied, tied_same, types_tied}
 use Rattle.base_data.specs.contracts.rdata.RDataPartialEq.TheImpl.{ghosts as equality}
 use Rattle.base_data.specs.declared.rdata.RData.{RData}
 use Rattle.rr.specs.RecordOrder.{record_cmp}
 use Rattle.rr.specs.RecordOrderLaws.{class_cmp-total, type_cmp-total}
 use Rattle.rr.specs.declared.record.Record.{Record}
 
--- the first ties, and so does the second
-then_tied : (p q : Ordering) → (ordering_then p q ≡ Equal) ↔ ((p ≡ Equal) × (q ≡ Equal))
-then_tied Less q = (λ h. cc, λ h. h.0)
-then_tied Equal q = (λ h. (refl, h), λ h. h.1)
-then_tied Greater q = (λ h. cc, λ h. h.0)
-
 -- what is equal as the order answers, is so
 tied_as : (same : Bool) (o : Ordering) → same ≡ is_eq o → (o ≡ Equal) ↔ IsTrue same
 tied_as same o tie = (λ h. tie ∙ ap is_eq h, λ h. (Equal-is o).0 (sym tie ∙ h))
-
--- and where the order ties only what is the same
-tied_same : {K : Type 0} {R : K → K → Ordering} → IsTotalOrder R → ((x y : K) → R x y ≡ Equal → x ≡ y) → (x y : K)
-    → (R x y ≡ Equal) ↔ (x ≡ y)
-tied_same {R = R} total exact x y = (exact x y, λ same. subst (λ z. R x z ≡ Equal) same (tied_itself total x))
-
-types_tied : (a b : RecordType) → type_cmp a b ≡ Equal → a ≡ b
-types_tied a b h = (types_Decide a b).0 (keys_match type_number type_rank a b ∙ ap is_eq h)
 
 classes_tied : (a b : DNSClass) → class_cmp a b ≡ Equal → a ≡ b
 classes_tied = search (comparing, rules)

@@ -1,17 +1,20 @@
 //! The last step: updates are carried out beside the zone (RFC 2136, 3.4.2), and what they make of it is found.
 
 ghost use Rattle.base.specs.RrKey.{key_cmp};
+ghost use Rattle.base.specs.names.Labels.{NameValue};
 ghost use Rattle.base.specs.names.NameOrder.{name_cmp, same_name};
 ghost use Rattle.base.specs.declared.rr_key.RrKey.{RrKey as Key};
 ghost use Rattle.base_data.specs.declared.rdata.RData.{RData};
 ghost use Rattle.op_use.specs.Applying.{IsZoneMap, names_owner};
 ghost use Rattle.op_use.specs.Outcome.{HasNothing, IsSortedByOwner, Settles, UpdatesOwner, UpdatesTo, each};
+ghost use Rattle.op_use.specs.OwnerWalk.{HasFrom, least};
 ghost use Rattle.op_use.specs.Zone.{is_owned};
 ghost use Rattle.rr.specs.declared.record.Record.{Record as Entry};
 ghost use Rattle.std.specs.BTreeMap.{get};
 ghost use Rattle.std.specs.Borrow.{Bor};
 ghost use Rattle.std.specs.List.{filter, prefix_len};
 ghost use Rattle.std.specs.Prelude.{IfOk, IsTrue, OnOk, is_some, not, true, ◌++◌, ◌↔◌, ◌≡◌};
+ghost use Rattle.std.specs.declared.cmp.Ordering.TheVariants.{Less};
 
 use crate::apply::changing_zone::ChangingZone;
 use crate::apply::current_set::CurrentSet;
@@ -22,6 +25,7 @@ use rr::{Record, RecordSet};
 use std::alloc::{AllocError, Global};
 use std::cmp::Ordering;
 use std::collections::BTreeMap;
+use std::collections::btree_map::Range;
 
 impl<'a> Zone<'a> {
     /// What these updates make of the zone's sets, one owner after the other, since an update looks at its own owner's
@@ -37,29 +41,36 @@ impl<'a> Zone<'a> {
             replaced: Vec::new(alloc),
             gone: Vec::new(alloc),
         };
+        let mut walk = self.sets.range(..);
         let mut done = 0;
         while done < sorted.len() {
             let rest = &sorted[done..];
             let owner = &rest[0].name;
             let count = count_of_owner(owner, rest);
-            self.update_owner(owner, &rest[..count], &mut outcome)?;
+            self.update_owner(owner, &rest[..count], &mut walk, &mut outcome)?;
             done += count;
         }
         Ok(outcome)
     }
 
-    /// Has what updates of one owner make of its sets in the outcome.
+    /// Has what updates of one owner make of its sets in the outcome. A walk over the zone's sets comes to them, and
+    /// goes on to those of later owners.
     fn update_owner(
         &self,
         owner: &Name,
         entries: &[&Record],
+        walk: &mut Range<'a, RrKey, RecordSet>,
         outcome: &mut Outcome,
     ) -> Result<(), AllocError>
         requires names { (q : Key) → names_owner (each entries.now) q ≡ true → is_owned owner.now q ≡ true }
         requires new { (q : Key) → is_owned owner.now q ≡ true → HasNothing outcome.old q }
-        ensures { OnOk result (UpdatesOwner owner.now (each entries.now) self.now outcome.old outcome.new) }
+        requires walk { HasFrom (least owner.now) self.now.sets walk.old }
+        ensures updates { OnOk result
+            (UpdatesOwner owner.now (each entries.now) self.now outcome.old outcome.new) }
+        ensures walk { OnOk result ((later : NameValue) → name_cmp owner.now later ≡ Less
+            → HasFrom (least later) self.now.sets walk.new) }
     {
-        let (mut keys, mut part) = ChangingZone::open(self, owner)?;
+        let (mut keys, mut part) = ChangingZone::open(self, owner, walk)?;
         part.update(entries)?;
         let sets = part.into_sets();
         keys.retain(|key| !sets.contains_key(key));

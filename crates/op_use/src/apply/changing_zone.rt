@@ -3,21 +3,26 @@
 ghost use Rattle.base.specs.declared.rr_key.RrKey.{RrKey as Key};
 ghost use Rattle.op_use.specs.Applying.{IsZoneMap, records_at};
 ghost use Rattle.op_use.specs.HeldZone.{HeldZone};
+ghost use Rattle.base.specs.names.NameOrder.{name_cmp};
+ghost use Rattle.base.specs.names.Labels.{NameValue};
 ghost use Rattle.op_use.specs.MapUpdates.{HoldsAt, LacksOwner, Opens};
+ghost use Rattle.op_use.specs.OwnerWalk.{HasFrom, least};
 ghost use Rattle.op_use.specs.Zone.{is_owned};
 ghost use Rattle.rr.specs.Record.{record_key};
 ghost use Rattle.rr.specs.SetChanges.{joined, without};
 ghost use Rattle.std.specs.BTreeMap.{keys};
 ghost use Rattle.std.specs.List.{filter};
 ghost use Rattle.std.specs.Prelude.{IfOk, OnOk, [], length, ◌≡◌};
+ghost use Rattle.std.specs.declared.cmp.Ordering.TheVariants.{Less};
 
 use crate::apply::current_set::CurrentSet;
 use crate::apply::rules::is_guarded;
 use crate::apply::zone::{Zone, record_key};
 use base::{DNSClass, Name, RecordType, RrKey};
-use rr::Record;
+use rr::{Record, RecordSet};
 use std::alloc::{AllocError, Global};
 use std::collections::BTreeMap;
+use std::collections::btree_map::Range;
 use std::marker::Model;
 
 /// What the owners that updates name have now. The zone itself stays as it was.
@@ -42,26 +47,33 @@ impl<'a> Model for ChangingZone<'a> {
 }
 
 impl<'a> ChangingZone<'a> {
-    /// The keys of an owner in a zone, and its sets, to be updated.
+    /// The keys of an owner in a zone, and its sets, to be updated. A walk over the zone's sets comes to them, and goes
+    /// on to those of later owners.
     pub(crate) fn open(
         zone: &Zone<'a>,
         owner: &Name,
+        walk: &mut Range<'a, RrKey, RecordSet>,
     ) -> Result<(Vec<RrKey>, ChangingZone<'a>), AllocError>
+        requires { HasFrom (least owner.now) zone.now.sets walk.old }
         ensures keys { IfOk result (λ opened. opened.0.items
             ≡ filter (λ (k : Key). is_owned owner.now k) (keys zone.now.sets)) }
         ensures sets { IfOk result (λ opened. Opens opened.0.items zone.now opened.1) }
         ensures zone { IfOk result (λ _. IsZoneMap zone.now.class zone.now.sets) }
+        ensures walk { OnOk result ((later : NameValue) → name_cmp owner.now later ≡ Less
+            → HasFrom (least later) zone.now.sets walk.new) }
     {
         let least = RrKey::of(owner, RecordType::ZERO)?;
         let alloc = owner.allocator();
         let mut found = Vec::new(alloc);
         let mut sets = BTreeMap::new(alloc);
-        for (key, set) in zone.sets.range(&least..) {
+        *walk = zone.sets_from(&least, walk)?;
+        for (key, set) in walk.clone()? {
             if least.name != key.name {
                 break;
             }
             found.push(key.clone()?)?;
             sets.insert(key.clone()?, CurrentSet::of_zone(set))?;
+            walk.next();
         }
         let part = ChangingZone {
             origin: zone.origin,

@@ -2,6 +2,7 @@
 
 ghost use Rattle.base.specs.declared.rr_key.RrKey.{RrKey as Key};
 ghost use Rattle.op_use.specs.HeldZone.{HeldZone};
+ghost use Rattle.op_use.specs.OwnerWalk.{HasFrom, entries_from};
 ghost use Rattle.op_use.specs.Server.{is_cname as is_cname_type};
 ghost use Rattle.op_use.specs.Zone.{is_owned};
 ghost use Rattle.rr.specs.Record.{record_key};
@@ -13,6 +14,7 @@ use base::{DNSClass, Name, RecordType, RrKey};
 use rr::{Record, RecordSet};
 use std::alloc::AllocError;
 use std::collections::BTreeMap;
+use std::collections::btree_map::Range;
 use std::marker::Model;
 
 /// A zone.
@@ -34,6 +36,23 @@ impl<'a> Model for Zone<'a> {
     ghost view = { λ z. record { origin = z.origin.now; class = z.class; sets = z.sets.now } };
 
     ghost invariant = { λ z. IsZoneMap z.class z.sets.now };
+}
+
+impl<'a> Zone<'a> {
+    /// The sets from a key on: what is left of a walk over the sets, unless that begins before the key.
+    pub(super) fn sets_from(
+        &self,
+        key: &RrKey,
+        walk: &Range<'a, RrKey, RecordSet>,
+    ) -> Result<Range<'a, RrKey, RecordSet>, AllocError>
+        requires { HasFrom key.now self.now.sets walk.now }
+        ensures { IfOk result (λ sets. sets ≡ entries_from key.now self.now.sets.entries) }
+    {
+        match walk.clone()?.next() {
+            Some((first, _)) if first.cmp(key).is_lt() => Ok(self.sets.range(key..)),
+            _ => walk.clone(),
+        }
+    }
 }
 
 /// The key of the set of a record.

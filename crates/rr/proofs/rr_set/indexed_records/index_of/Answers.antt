@@ -2,7 +2,8 @@ use Rattle.std.proofs.Common.{◌≡◌, ◌∙◌, ◌<◌, ◌+◌, ◌++◌, 
 use Rattle.std.proofs.lemmas.List.{take_more, length-take}
 use Rattle.base_data.specs.declared.rdata.RData.{RData}
 use Rattle.rr.specs.declared.record.Record.{Record}
-use Rattle.rr.proofs.IndexLemmas.{none_of, place_here, place_others, pushed}
+use Rattle.base.proofs.IndexedLemmas.{place_here, place_others}
+use Rattle.rr.proofs.IndexLemmas.{none_of, pushed}
 use Rattle.rr.proofs.rr_set.indexed_records.index_of.Goals as goal
 
 pub loop-place-preserved : goal.loop-place-preserved

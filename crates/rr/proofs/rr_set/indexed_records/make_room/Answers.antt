@@ -8,8 +8,9 @@ use Rattle.base.specs.Keys.{indexed_at}
 use Rattle.rr.specs.DataIndex.{IsIndexOf}
 use Rattle.rr.specs.declared.record.Record.{Record}
 use Rattle.rr.proofs.Around.{joined_after}
-use Rattle.rr.proofs.IndexLemmas.{index_set, index_wider, joined_at, none_of, place_here}
-use Rattle.rr.proofs.IndexLemmas.{place_known, place_last, place_others, pushed}
+use Rattle.base.proofs.IndexedLemmas.{place_here, place_others}
+use Rattle.rr.proofs.IndexLemmas.{index_set, index_wider, joined_at, none_of}
+use Rattle.rr.proofs.IndexLemmas.{place_known, place_last, pushed}
 use Rattle.rr.proofs.rr_set.indexed_records.make_room.Goals as goal
 
 pub returns-in-Some-place_of-clause-joined : goal.returns-in-Some-place_of-clause-joined

@@ -1,4 +1,5 @@
-use Rattle.rr.proofs.IndexLemmas.{none_of, place_here, place_others}
+use Rattle.base.proofs.IndexedLemmas.{place_here, place_others}
+use Rattle.rr.proofs.IndexLemmas.{none_of}
 use Rattle.rr.proofs.PlacedLemmas.{Index, index_pushed}
 use Rattle.rr.proofs.rr_set.placed_records.take_in.Goals as goal
 use Rattle.base.specs.Keys.{indexed_at}

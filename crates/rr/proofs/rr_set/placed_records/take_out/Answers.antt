@@ -1,4 +1,4 @@
-use Rattle.rr.proofs.IndexLemmas.{place_others}
+use Rattle.base.proofs.IndexedLemmas.{place_others}
 use Rattle.rr.proofs.PlacedLemmas.{Index, index_taken}
 use Rattle.rr.proofs.rr_set.placed_records.take_out.Goals as goal
 use Rattle.base.specs.Keys.{indexed_at}

@@ -1,5 +1,6 @@
-use Rattle.op_use.proofs.OutcomeSteps.{gathered_first, gathered_last, step_names, step_new, step_next, step_smaller}
+use Rattle.op_use.proofs.OutcomeSteps.{gathered_first, gathered_last, step_ahead, step_names, step_new, step_next, step_smaller}
 use Rattle.op_use.proofs.OwnerRuns.{ascending}
+use Rattle.op_use.proofs.WalkSteps.{IsAhead, ahead_at_first, begins}
 use Rattle.op_use.proofs.apply.zone.Zone.outcome.Goals as goal
 use Rattle.op_use.specs.Applying.{IsZoneMap}
 use Rattle.op_use.specs.HeldZone.{HeldZone}
@@ -19,7 +20,18 @@ loop-done-init c = (
         replaced = found (c.new-2.ensures.items i) q;
         is_gone = has_key q (c.new-3.ensures.items i);
       }),
+  subst (λ (y : HeldZone). IsAhead y.sets c.in_ok-sorted.sorted.items c.range-walk.result) c.self.view_is
+      (ahead_at_first c.self.inside.sets.now c.in_ok-sorted.sorted.items c.range-walk.result
+      (λ k. begins c.self.inside.sets.now k c.range-walk.result (c.range-walk.ensures.between tt)
+      c.range-walk.ensures.ordered)),
 )
+
+pub update_owner-requires-clause-walk : goal.update_owner-requires-clause-walk
+update_owner-requires-clause-walk c =
+    let here : c.loop-done.done < length c.in_ok-sorted.sorted.items = omega (arith, c.in_ok-sorted.sorted.ok.0) in
+    step_ahead c.args.entries.now c.args.self.now c.in_ok-sorted.sorted.items c.deref.result.now c.loop-done.done
+    c.count_of_owner-count.result c.index-rest-0.result c.loop-done.outcome c.deref.ensures.value here
+    c.loop-done.invariant.1 c.loop-done.invariant.2 c.loop-done.walk c.loop-done.invariant.3
 
 pub update_owner-requires-clause-names : goal.update_owner-requires-clause-names
 update_owner-requires-clause-names c =
@@ -41,7 +53,7 @@ loop-done-preserved c =
     step_next c.args.entries.now c.args.self.now c.in_ok-sorted.sorted.items c.deref.result.now c.loop-done.done
     c.count_of_owner-count.result c.index-rest-0.result c.loop-done.outcome c.deref.ensures.value here
     c.loop-done.invariant.1 c.loop-done.invariant.2 c.count_of_owner-count.ensures c.update_owner.new.outcome
-    c.in_ok-update_owner.ensures
+    c.update_owner.new.walk c.in_ok-update_owner.ensures.updates c.in_ok-update_owner.ensures.walk
 
 pub loop-done-smaller : goal.loop-done-smaller
 loop-done-smaller c =

@@ -27,8 +27,8 @@ settle-requires-clause-new c =
     (filter_same _ (λ (k : RrKey). not (is_some (get key_cmp c.into_sets-sets.result k))) _ (λ x b f' t. search rules)
     _ _ c.retain.ensures.filtered))
 
-pub returns : goal.returns
-returns c =
+pub returns-clause-updates : goal.returns-clause-updates
+returns-clause-updates c =
     let gone : c.append.new.self.items ≡ c.args.outcome.now.gone.items ++ c.retain.new.self.items = search rules in
     on_ok_weaker c.settle.result (λ settles.
     updates_owner c.args.owner.now c.args.self.now c.in_ok-keys.part c.update.new.self (each c.args.entries.now)
