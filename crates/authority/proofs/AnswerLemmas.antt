@@ -2,7 +2,7 @@
 use Rattle.authority.proofs.CutLemmas.{cut_is_end}
 use Rattle.authority.proofs.SetLemmas.{records_there}
 use Rattle.authority.specs.Found.{IsAlias, IsFound, answered}
-use Rattle.authority.specs.Lookup.{Alias, Data, Finding, NoName, Outside, alias_at, alias_else, alias_in, alias_or}
+use Rattle.authority.specs.Lookup.{Alias, Data, Finding, alias_at, alias_else, alias_in, alias_or}
 use Rattle.authority.specs.Lookup.{first_target, least_ttl, lookup, record_of, records, records_of, shown, target_of}
 use Rattle.authority.specs.Answer.{AnswerValue, addresses_found, answer, answer_found, answer_value, end_like, extras}
 use Rattle.authority.specs.Answer.{host_in, negative, of_data, owns, referring, with_authority, with_host}

@@ -1,9 +1,9 @@
 -- Answers of a zone transfer are gathered step by step.
-use Rattle.authority.proofs.SetLemmas.{shown_from}
+use Rattle.authority.proofs.SetLemmas.{shown_from, shown_here}
 use Rattle.authority.proofs.SetsFromLemmas.{IsEnd, all_between, end_from, given_none, given_some}
 use Rattle.authority.proofs.WholeLemmas.{transfer_whole}
 use Rattle.authority.specs.Filling.{Adds, Fills, FillsTo}
-use Rattle.authority.specs.Lookup.{record_of, shown}
+use Rattle.authority.specs.Lookup.{record_of}
 use Rattle.authority.specs.Transfer.{IsFull, IsNext, between, given_from, is_between, is_end, left_at, plain_records}
 use Rattle.authority.specs.Transfer.{records_from, room_beside, transferring}
 use Rattle.authority.specs.declared.filling.Answers.{Answers}
@@ -17,14 +17,14 @@ use Rattle.base_data.specs.RData.{is_empty_data}
 use Rattle.base_data.specs.declared.rdata.RData.{RData}
 use Rattle.op.specs.Message.{MessageValue}
 use Rattle.op.specs.MessageWritten.{AreWhole, parts_of}
-use Rattle.op_use.proofs.OwnerKeys.{least}
+use Rattle.op_use.specs.OwnerWalk.{least}
 use Rattle.op_use.specs.NamedChanges.{datum_of}
 use Rattle.rr.specs.declared.record.Record.{Record}
 use Rattle.rr.specs.RecordSet.{SetValue}
-use Rattle.std.proofs.Common.{ap, append_assoc, arith, drop, drop-cons, get_or, inl, length, refl, subst, sym, ◌++◌}
+use Rattle.std.proofs.Common.{ap, append_assoc, arith, get_or, inl, length, refl, subst, sym, ◌++◌}
 use Rattle.std.proofs.Common.{◌+◌, ◌-◌, ◌<◌, ◌∙◌}
 use Rattle.std.proofs.lemmas.Bool.{cond-true}
-use Rattle.std.specs.Prelude.{List, [], false, map, not, suc, true, ℕ, ◌∷◌, ◌≡◌, ◌≢◌, ◌⊎◌}
+use Rattle.std.specs.Prelude.{List, [], false, map, not, true, ℕ, ◌∷◌, ◌≡◌, ◌≢◌, ◌⊎◌}
 use Rattle.std.specs.BTreeMap.Range.{entries_between}
 use Rattle.std.specs.BTreeMap.{BTreeMap}
 use Rattle.std.specs.List.Sorted.{IsStrictlySortedBy}
@@ -80,20 +80,13 @@ full_before room xs zs f = record {
 abbrev pub left_of : DNSClass → NameValue → ℕ → List (Record RData) → ℕ → List (Record RData)
 left_of class owner ttl rs i = map (record_of class owner ttl) (shown_from rs i)
 
-here : (rs : List (Record RData)) (i : ℕ) (r : Record RData) → i < length rs → r ≡ get_or rs i r
-    → drop i rs ≡ r ∷ drop (i + 1) rs
-here rs i r below is =
-    let next : suc i ≡ i + 1 = omega arith in
-    drop-cons rs i r below ∙ ap (λ x. x ∷ drop (suc i) rs) (sym is) ∙ ap (λ n. r ∷ drop n rs) next
-
 module _ (class : DNSClass) (owner : NameValue) (ttl : ℕ) (rs : List (Record RData)) (i : ℕ) (r : Record RData)
     (below : i < length rs) (is : r ≡ get_or rs i r) where
   abbrev x : Record RData
   x = record_of class owner ttl (datum_of r)
 
   begins : is_empty_data r.rdata ≡ false → left_of class owner ttl rs i ≡ x ∷ left_of class owner ttl rs (i + 1)
-  begins filled = ap (map (record_of class owner ttl)) (ap (λ xs. shown (map datum_of xs)) (here rs i r below is)
-      ∙ cond-true _ _ _ (ap not filled))
+  begins filled = ap (map (record_of class owner ttl)) (shown_here rs i r below is ∙ cond-true _ _ _ (ap not filled))
 
   pub set_adds : (before : List (Record RData)) (a b : Answers) → Fills before (left_of class owner ttl rs i) a b
       → is_empty_data r.rdata ≡ false → (c : Answers) → Adds x b true c

@@ -14,7 +14,8 @@ use Rattle.base.specs.Keys.{keys_match}
 use Rattle.base.specs.names.NameOrderLaws.{same_lower-exact}
 use Rattle.base.specs.declared.record_type.RecordType.TheVariants as types
 use Rattle.base.specs.declared.record_type.RecordType.{RecordType}
-use Rattle.op_use.proofs.OwnerKeys.{from_is, is_from, least, next_owned, owned_entry, owned_is, starts}
+use Rattle.op_use.proofs.OwnerKeys.{from_is, is_from, next_owned, owned_entry, owned_is, starts}
+use Rattle.op_use.specs.OwnerWalk.{least}
 use Rattle.op_use.specs.Zone.{is_owned}
 use Rattle.rr.specs.RecordSet.{SetValue}
 use Rattle.std.proofs.Common.{ap, refl, subst, sym, ◌∙◌}

@@ -11,13 +11,15 @@ use Rattle.base.specs.declared.dns_class.DNSClass.{DNSClass}
 use Rattle.base.specs.declared.rr_key.RrKey.{RrKey}
 use Rattle.base_data.specs.declared.rdata.RData.{RData}
 use Rattle.op_use.proofs.MapZones.{any_entries, get_zone}
-use Rattle.op_use.proofs.OwnerKeys.{least, next_owned, owned_entry, starts}
+use Rattle.op_use.proofs.OwnerKeys.{next_owned, owned_entry, starts}
+use Rattle.op_use.specs.OwnerWalk.{least}
 use Rattle.op_use.specs.Applying.{data_in_set, entry_of, zone_of_map}
 use Rattle.op_use.specs.Zone.{Datum, is_owned}
 use Rattle.op_use.specs.NamedChanges.{datum_of}
 use Rattle.rr.specs.RecordSet.{SetValue}
 use Rattle.rr.specs.declared.record.Record.{Record}
-use Rattle.std.proofs.Common.{ap, append_assoc, drop, refl, sym, ◌++◌, ◌∙◌}
+use Rattle.std.proofs.Common.{ap, append_assoc, arith, drop, drop-cons, get_or, length, refl, sym, ◌+◌, ◌++◌, ◌<◌, ◌∙◌}
+use Rattle.std.proofs.lemmas.Bool.{cond-false, cond-true}
 use Rattle.std.proofs.lemmas.List.Folds.{flat_map-map}
 use Rattle.std.proofs.lemmas.List.{map-append}
 use Rattle.std.proofs.lemmas.Map.Keys.{sorted_head, sorted_tail}
@@ -34,7 +36,9 @@ use Rattle.std.specs.Borrow.{Bor}
 use Rattle.std.specs.List.{AllByRecursion, filter, flat_map, fold, take_while}
 use Rattle.std.specs.Map.{keys_of, values_of}
 use Rattle.std.specs.Ordering.{is_lt}
-use Rattle.std.specs.Prelude.{Bool, List, None, Option, Some, [], cond, false, map, min, option_map, true, unwrap_or, ℕ}
+use Rattle.base_data.specs.RData.{is_empty_data}
+use Rattle.std.specs.Prelude.{Bool, List, None, Option, Some, [], cond, false, map, min, not, option_map, suc, true}
+use Rattle.std.specs.Prelude.{unwrap_or, ℕ}
 use Rattle.std.specs.Prelude.{◌&&◌, ◌∷◌, ◌≡◌}
 use Rattle.std.specs.declared.cmp.Ordering.TheVariants.{Less}
 use Rattle.std.specs.declared.ops.Bound.TheVariants.{Included, Unbounded}
@@ -144,6 +148,27 @@ least_after (Some ttl) ds = fold (λ (least : ℕ) (e : Datum). min least e.ttl)
 -- the data that is answered of the records from a place on
 abbrev pub shown_from : List (Record RData) → ℕ → List Datum
 shown_from rs i = shown (map datum_of (drop i rs))
+
+-- what is answered from a record on: it comes first, unless it is empty
+pub shown_here : (rs : List (Record RData)) (i : ℕ) (r : Record RData) → i < length rs → r ≡ get_or rs i r
+    → shown_from rs i ≡ cond (not (is_empty_data r.rdata)) (datum_of r ∷ shown_from rs (i + 1)) (shown_from rs (i + 1))
+shown_here rs i r below is =
+    let next : suc i ≡ i + 1 = omega arith in
+    ap (λ xs. shown (map datum_of xs)) (drop-cons rs i r below ∙ ap (λ x. x ∷ drop (suc i) rs) (sym is)
+    ∙ ap (λ n. r ∷ drop n rs) next)
+
+-- a walk over the records of a set, of which those that are answered are added as f has them
+module _ (f : Datum → Record RData) (rs : List (Record RData)) (i : ℕ) (r : Record RData) (below : i < length rs)
+    (is : r ≡ get_or rs i r) (items all : List (Record RData)) (so_far : items ++ map f (shown_from rs i) ≡ all) where
+  pub left_out : is_empty_data r.rdata ≡ true → items ++ map f (shown_from rs (i + 1)) ≡ all
+  left_out empty = ap (λ ds. items ++ map f ds) (sym (shown_here rs i r below is ∙ cond-false _ _ _ (ap not empty)))
+      ∙ so_far
+
+  pub added : is_empty_data r.rdata ≡ false → (more : List (Record RData)) → more ≡ items ++ f (datum_of r) ∷ []
+      → more ++ map f (shown_from rs (i + 1)) ≡ all
+  added filled more e = ap (λ xs. xs ++ map f (shown_from rs (i + 1))) e
+      ∙ append_assoc items (f (datum_of r) ∷ []) (map f (shown_from rs (i + 1)))
+      ∙ ap (λ ds. items ++ map f ds) (sym (shown_here rs i r below is ∙ cond-true _ _ _ (ap not filled))) ∙ so_far
 
 -- the records of a negative answer, before the first
 pub negative_begins : (class : DNSClass) (owner : NameValue) (least : ℕ) (items entries records : List (Record RData))

@@ -13,66 +13,42 @@ use Rattle.base.specs.RrKey.{key_cmp}
 use Rattle.base.specs.declared.dns_class.DNSClass.{DNSClass}
 use Rattle.base.specs.declared.rr_key.RrKey.{RrKey}
 use Rattle.base_data.specs.declared.rdata.RData.{RData}
-use Rattle.op_use.proofs.OwnerKeys.{from_is, least}
+use Rattle.op_use.proofs.OwnerKeys.{from, from_is}
+use Rattle.op_use.proofs.WalkSteps.{rising}
+use Rattle.op_use.specs.OwnerWalk.{entries_from, least}
 use Rattle.op_use.specs.Applying.{data_in_set, entry_of, zone_of_map}
 use Rattle.op_use.specs.NamedChanges.{set_key}
 use Rattle.op_use.specs.Zone.{Datum}
 use Rattle.rr.specs.RecordSet.{SetValue, is_soa}
 use Rattle.rr.specs.declared.record.Record.{Record}
 use Rattle.std.proofs.Common.{ap, append_assoc, refl, subst, sym, ◌++◌, ◌∙◌}
-use Rattle.std.proofs.Math.Bool.{and-true}
 use Rattle.std.proofs.lemmas.Bool.{cond-false, cond-true, false_from_ne_true, false≢true}
 use Rattle.std.proofs.lemmas.Map.Keys.{sorted_head, sorted_tail}
 use Rattle.std.proofs.lemmas.List.Elements.{All-contains_itself, recursion_from_All}
 use Rattle.std.proofs.lemmas.List.{map-append}
 use Rattle.std.proofs.lemmas.Map.Views.{btree_map_get_iff}
-use Rattle.std.specs.BTreeMap.Range.{entries_between, range_contains}
+use Rattle.std.specs.BTreeMap.Range.{entries_between}
 use Rattle.std.specs.Cmp.{tied_itself}
 use Rattle.std.specs.List.Sorted.{IsStrictlySortedBy}
 use Rattle.std.specs.List.{AllByRecursion, filter, flat_map}
 use Rattle.std.specs.Map.{keys_of}
 use Rattle.std.specs.Ordering.{is_le, ordering_reverse}
 use Rattle.std.specs.Prelude.{Bool, List, [], cond, false, map, not, slice_index_or, true, ℕ, ◌&&◌, ◌∷◌, ◌≡◌}
-use Rattle.std.specs.declared.cmp.Ordering.TheVariants.{Equal, Greater, Less}
-use Rattle.std.specs.declared.cmp.Ordering.{Ordering}
+use Rattle.std.specs.declared.cmp.Ordering.TheVariants.{Less}
 use Rattle.std.specs.declared.ops.Bound.TheVariants.{Included, Unbounded}
 use Rattle.std.specs.BTreeMap.{BTreeMap, IsOrdered}
-
--- whether an entry stands at a key or after it
-abbrev pub stands_from : RrKey → RrKey × SetValue → Bool
-stands_from k e = range_contains key_cmp (Included k) Unbounded e.0
-
--- the keys after one are after those before it
-after_too : (k a b : RrKey) → is_le (key_cmp k a) ≡ true → key_cmp a b ≡ Less → is_le (key_cmp k b) ≡ true
-after_too k a b le less = go (key_cmp k a) refl le where
-  go : (o : Ordering) → key_cmp k a ≡ o → is_le o ≡ true → is_le (key_cmp k b) ≡ true
-  go Less e h = ap is_le (key_cmp-total.trans k a b e less)
-  go Equal e h = ap (λ q. is_le (key_cmp q b)) (key_cmp-exact k a e) ∙ ap is_le less
-  go Greater e h = cc
-
-all_from : (k a : RrKey) (es : List (RrKey × SetValue)) → is_le (key_cmp k a) ≡ true
-    → AllByRecursion (λ q. key_cmp a q ≡ Less) (keys_of es) → filter (stands_from k) es ≡ es
-all_from k a [] le h = refl
-all_from k a (e ∷ es) le (h, hs) =
-    cond-true _ _ _ (ap (λ b. b && true) (after_too k a e.0 le h))
-    ∙ ap (λ xs. e ∷ xs) (all_from k a es le hs)
 
 -- Where entries are in order, those from a key on are an end of them.
 abbrev pub IsEnd : List (RrKey × SetValue) → List (RrKey × SetValue) → Type 0
 IsEnd all es = (front : List (RrKey × SetValue)) × (all ≡ front ++ es)
 
 from_is_end : (k : RrKey) (es : List (RrKey × SetValue)) → IsStrictlySortedBy key_cmp (keys_of es)
-    → IsEnd es (filter (stands_from k) es)
+    → IsEnd es (entries_from k es)
 from_is_end k [] s = ([], refl)
 from_is_end k (e ∷ es) s =
-    go (stands_from k e) refl (from_is_end k es (sorted_tail key_cmp e.0 (keys_of es) s)) where
-      go : (b : Bool) → stands_from k e ≡ b → IsEnd es (filter (stands_from k) es)
-          → IsEnd (e ∷ es) (filter (stands_from k) (e ∷ es))
-      go true t more = (
-        [],
-        sym (cond-true _ _ _ t ∙ ap (λ xs. e ∷ xs)
-            (all_from k e.0 es (sym (and-true (is_le (key_cmp k e.0))) ∙ t) (sorted_head key_cmp e.0 (keys_of es) s))),
-      )
+    go (from k e.0) refl (from_is_end k es (sorted_tail key_cmp e.0 (keys_of es) s)) where
+      go : (b : Bool) → from k e.0 ≡ b → IsEnd es (entries_from k es) → IsEnd (e ∷ es) (entries_from k (e ∷ es))
+      go true t more = ([], rising k e es t s)
       go false t more =
           (e ∷ more.0, ap (λ xs. e ∷ xs) (more.1 ∙ ap (λ xs. more.0 ++ xs) (sym (cond-false _ _ _ t))))
 
@@ -80,8 +56,8 @@ from_is_end k (e ∷ es) s =
 not_from : (a k : RrKey) → key_cmp a k ≡ Less → (is_le (key_cmp k a) && true) ≡ false
 not_from a k h = ap (λ o. is_le o && true) (key_cmp-total.antisymm k a ∙ ap ordering_reverse h)
 
-to_itself : (k : RrKey) → is_le (key_cmp k k) ≡ true
-to_itself k = ap is_le (tied_itself key_cmp-total k)
+to_itself : (k : RrKey) → from k k ≡ true
+to_itself k = ap (λ o. is_le o && true) (tied_itself key_cmp-total k)
 
 at_place : (P : RrKey → Type 0) (front : List (RrKey × SetValue)) (e : RrKey × SetValue)
     (es : List (RrKey × SetValue)) → AllByRecursion P (keys_of (front ++ e ∷ es)) → P e.0
@@ -90,10 +66,8 @@ at_place P (x ∷ front) e es (h, hs) = at_place P front e es hs
 
 -- those from the key of one of them on
 from_key : (front : List (RrKey × SetValue)) (e : RrKey × SetValue) (es : List (RrKey × SetValue))
-    → IsStrictlySortedBy key_cmp (keys_of (front ++ e ∷ es)) → filter (stands_from e.0) (front ++ e ∷ es) ≡ e ∷ es
-from_key [] e es s =
-    cond-true _ _ _ (ap (λ b. b && true) (to_itself e.0)) ∙ ap (λ xs. e ∷ xs)
-    (all_from e.0 e.0 es (to_itself e.0) (sorted_head key_cmp e.0 (keys_of es) s))
+    → IsStrictlySortedBy key_cmp (keys_of (front ++ e ∷ es)) → entries_from e.0 (front ++ e ∷ es) ≡ e ∷ es
+from_key [] e es s = sym (rising e.0 e es (to_itself e.0) s)
 from_key (x ∷ front) e es s =
     cond-false _ _ _ (not_from x.0 e.0 (at_place (λ q. key_cmp x.0 q ≡ Less) front e es
     (sorted_head key_cmp x.0 (keys_of (front ++ e ∷ es)) s)))
@@ -118,7 +92,7 @@ pub end_from : (all it es : List (RrKey × SetValue)) (e : RrKey × SetValue) �
     → IsEnd all it → it ≡ e ∷ es → entries_between key_cmp (Included e.0) Unbounded all ≡ e ∷ es
 end_from all it es e sorted end is =
     let same : all ≡ end.0 ++ e ∷ es = end.1 ∙ ap (λ xs. end.0 ++ xs) is in
-    ap (filter (stands_from e.0)) same
+    ap (entries_from e.0) same
     ∙ from_key end.0 e es (subst (λ xs. IsStrictlySortedBy key_cmp (keys_of xs)) same sorted)
 
 -- ---- what they give
@@ -139,19 +113,19 @@ module _ (origin : NameValue) (class : DNSClass) where
       ap (λ xs. xs ++ flat_map (given origin class 0) es) (cond-true _ _ _ h)
       ∙ ap (λ xs. records_from class j e.1 ++ xs) (sym (from_first es))
 
-  before_none : (e : RrKey × SetValue) → stands_from (least origin) e ≡ false → given origin class 0 e ≡ []
+  before_none : (e : RrKey × SetValue) → from (least origin) e.0 ≡ false → given origin class 0 e ≡ []
   before_none e f = cond-false _ _ _ (ap (λ b. b && not (is_soa e.0.record_type && same_name e.0.name origin))
       (false_from_ne_true (is_at_or_below origin e.0.name)
       (λ t. false≢true (sym f ∙ from_is origin e.0 ∙ below_le origin e.0.name t))))
 
   -- nothing is given before the least key of the origin
   from_least : (es : List (RrKey × SetValue))
-      → flat_map (given origin class 0) (filter (stands_from (least origin)) es) ≡ flat_map (given origin class 0) es
+      → flat_map (given origin class 0) (entries_from (least origin) es) ≡ flat_map (given origin class 0) es
   from_least [] = refl
-  from_least (e ∷ es) = go (stands_from (least origin) e) refl (from_least es) where
-    go : (b : Bool) → stands_from (least origin) e ≡ b
-        → flat_map (given origin class 0) (filter (stands_from (least origin)) es) ≡ flat_map (given origin class 0) es
-        → flat_map (given origin class 0) (filter (stands_from (least origin)) (e ∷ es))
+  from_least (e ∷ es) = go (from (least origin) e.0) refl (from_least es) where
+    go : (b : Bool) → from (least origin) e.0 ≡ b
+        → flat_map (given origin class 0) (entries_from (least origin) es) ≡ flat_map (given origin class 0) es
+        → flat_map (given origin class 0) (entries_from (least origin) (e ∷ es))
         ≡ given origin class 0 e ++ flat_map (given origin class 0) es
     go true t more = ap (flat_map (given origin class 0)) (cond-true _ _ _ t)
         ∙ ap (λ xs. given origin class 0 e ++ xs) more
@@ -163,7 +137,7 @@ module _ (origin : NameValue) (class : DNSClass) where
       ≡ flat_map (given origin class 0) es
   all_between k es is =
       ap (λ q. given_from origin class 0 (entries_between key_cmp (Included q) Unbounded es)) is
-      ∙ from_first (filter (stands_from (least origin)) es) ∙ from_least es
+      ∙ from_first (entries_from (least origin) es) ∙ from_least es
 
 -- ---- what a transfer gives is the zone's
 

@@ -24,12 +24,6 @@ use Rattle.std.specs.Prelude.{List, None, Option, Some, [], ◌≡◌}
 abbrev pub answered : DNSClass → NameValue → SetValue → List (Record RData)
 answered class owner s = records_of class owner (data_in_set s)
 
--- the records of what was found, which are none where no set of the type was
-abbrev pub records_found : DNSClass → NameValue → Found → List (Record RData)
-records_found class owner (codes.Data s) = answered class owner s.now
-records_found class owner (codes.All found) = flat_map (λ s. answered class owner s.now) found.items
-records_found class owner _ = []
-
 -- What stands at a name is what the map has under its keys, and whether it has any at the name or below it.
 abbrev pub IsAtName : BTreeMap RrKey SetValue → NameValue → RecordType → AtName → Type 0
 IsAtName sets n t own = (own.exists ≡ exists_among n (tree.keys sets))

@@ -1,16 +1,19 @@
 //! Additional records: the addresses of the hosts that records name (RFC 1034, 4.3.2, 6).
 
 ghost use Rattle.authority.specs.Answer.{addresses_of, extras, host_in as the_host, is_given as the_given, with_addresses};
+ghost use Rattle.authority.specs.Lookup.{records};
 ghost use Rattle.authority.specs.ZoneRef.{zone_of};
+ghost use Rattle.base.specs.RrKey.{key_of};
 ghost use Rattle.std.specs.Option.{option_copied};
 ghost use Rattle.std.specs.Prelude.{IfOk, IsOkUnless, OnOk, ◌++◌, ◌≡◌};
 
 use crate::found::{Found, lookup};
-use crate::records::{add_answered, add_found};
+use crate::records::{add_all, add_answered};
 use crate::zone_ref::ZoneRef;
 use base::{Name, ProtoError, RecordType};
 use base_data::RData;
 use rr::Record;
+use std::alloc::AllocError;
 
 /// The host that data of a name server, a mail host or a service names (RFC 1035, 3.3.9 and 3.3.11; RFC 2782).
 fn host_in(rdata: &RData) -> Option<&Name>
@@ -36,6 +39,23 @@ fn is_given(records: &[Record], name: &Name, record_type: RecordType) -> bool
     false
 }
 
+/// Adds the records of a host and a type that the zone has below a cut.
+fn add_glue(
+    zone: &ZoneRef<'_>,
+    host: &Name,
+    record_type: RecordType,
+    additionals: &mut Vec<Record>,
+) -> Result<(), AllocError>
+    ensures { OnOk result (additionals.new.items
+        ≡ additionals.old.items
+        ++ records (zone_of zone.now) host.now (key_of host.now record_type)) }
+{
+    match zone.set_at(host, record_type)? {
+        Some(set) => add_answered(additionals, host, zone.class, set),
+        None => Ok(()),
+    }
+}
+
 /// Adds the addresses of a type that a host has, as they are found; below a cut glue alone (RFC 1034, 4.3.2, 3b).
 fn add_addresses(
     zone: &ZoneRef<'_>,
@@ -48,17 +68,13 @@ fn add_addresses(
         ≡ additionals.old.items ++ addresses_of (zone_of zone.now) is_referral record_type host.now) }
     ensures only { IsOkUnless result ProtoError.Memory }
 {
-    let found = lookup(zone.alloc, zone.sets, zone.origin, host, record_type)?;
-    let Found::Cut(_) = &found else {
-        return Ok(add_found(additionals, host, zone.class, &found)?);
+    let added = match lookup(zone.alloc, zone.sets, zone.origin, host, record_type)? {
+        Found::Cut(_) if is_referral => add_glue(zone, host, record_type, additionals),
+        Found::Data(set) => add_answered(additionals, host, zone.class, set),
+        Found::All(sets) => add_all(additionals, host, zone.class, &sets),
+        _ => Ok(()),
     };
-    if !is_referral {
-        return Ok(());
-    }
-    match zone.set_at(host, record_type)? {
-        Some(set) => Ok(add_answered(additionals, host, zone.class, set)?),
-        None => Ok(()),
-    }
+    Ok(added?)
 }
 
 /// Adds the addresses of a type that a host has, unless they stand there or among the answers or the authorities.

@@ -169,6 +169,22 @@ fn negative(
     })
 }
 
+/// The name servers of a cut, whose owner is spelled as it was asked.
+fn servers_over(
+    zone: &ZoneRef<'_>,
+    name: &Name,
+    servers: &RecordSet,
+) -> Result<Vec<Record>, ProtoError>
+    ensures value { IfOk result (λ v. v.items
+        ≡ answered zone.now.class (the_end servers.now.name name.now) servers.now) }
+    ensures only { IsOkUnless result ProtoError.Memory }
+{
+    let owner = end_like(servers.name(), name)?;
+    let mut records = Vec::new(zone.alloc);
+    add_answered(&mut records, &owner, zone.class, servers)?;
+    Ok(records)
+}
+
 /// A referral to the name servers of a cut (RFC 1034, 4.3.2, 3b).
 fn referral(
     zone: &ZoneRef<'_>,
@@ -181,9 +197,7 @@ fn referral(
         (answered zone.now.class (the_end servers.now.name name.now) servers.now)) }
     ensures only { IsOkUnless result ProtoError.Memory }
 {
-    let owner = end_like(servers.name(), name)?;
-    let mut authorities = Vec::new(zone.alloc);
-    add_answered(&mut authorities, &owner, zone.class, servers)?;
+    let authorities = servers_over(zone, name, servers)?;
     let additionals = additionals(zone, true, &answers, &authorities)?;
     Ok(Answer {
         response_code: ResponseCode::NoError,

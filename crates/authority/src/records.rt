@@ -2,7 +2,7 @@
 //! (RFC 2181, 5.2).
 
 ghost use Rattle.authority.specs.Answer.{as_negative, end_like as the_end, capped_ttl as the_capped_ttl};
-ghost use Rattle.authority.specs.Found.{answered, records_found};
+ghost use Rattle.authority.specs.Found.{answered};
 ghost use Rattle.authority.specs.Lookup.{least_ttl as the_least, shown};
 ghost use Rattle.base_data.specs.declared.rdata.RData.TheVariants as kinds;
 ghost use Rattle.op_use.specs.Applying.{data_in_set};
@@ -10,7 +10,6 @@ ghost use Rattle.op_use.specs.NamedChanges.{datum_of};
 ghost use Rattle.std.specs.List.{flat_map};
 ghost use Rattle.std.specs.Prelude.{IfOk, IsOkUnless, OnOk, false, map, ◌++◌, ◌≡◌};
 
-use crate::found::Found;
 use base::{DNSClass, Name, ProtoError};
 use base_data::{CNAME, RData};
 use rr::{Record, RecordSet};
@@ -94,23 +93,6 @@ pub(crate) fn add_all(
         add_answered(records, owner, class, set)?;
     }
     Ok(())
-}
-
-/// Adds the records that were found, if any were.
-pub(crate) fn add_found(
-    records: &mut Vec<Record>,
-    owner: &Name,
-    class: DNSClass,
-    found: &Found<'_>,
-) -> Result<(), AllocError>
-    ensures { OnOk result
-        (records.new.items ≡ records.old.items ++ records_found class owner.now found.now) }
-{
-    match found {
-        Found::Data(set) => add_answered(records, owner, class, set),
-        Found::All(sets) => add_all(records, owner, class, sets),
-        _ => Ok(()),
-    }
 }
 
 /// The record of the alias that stands first in a set and leads to this name.

@@ -9,10 +9,11 @@ ghost use Rattle.authority.specs.ZoneRef.{AreUnderKeys, zone_of};
 ghost use Rattle.base.specs.RrKey.{key_of as the_key};
 ghost use Rattle.op.specs.Message.{empty_message, message_value};
 ghost use Rattle.op_use.specs.Applying.{zone_of_map};
-ghost use Rattle.op_use.specs.Server.{is_meta as is_meta_type};
+ghost use Rattle.op_use.specs.Server.{is_any, is_meta as is_meta_type};
 ghost use Rattle.op_use.specs.Zone.{has_set};
+ghost use Rattle.rr.specs.RecordOrder.{same_class};
 ghost use Rattle.std.specs.Option.{option_copied};
-ghost use Rattle.std.specs.Prelude.{IfOk, IsOkUnless, option_map, ◌≡◌};
+ghost use Rattle.std.specs.Prelude.{IfOk, IsOkUnless, not, option_map, ◌&&◌, ◌||◌, ◌≡◌};
 
 use crate::answer::{Answer, answer_from};
 use crate::sets::is_within;
@@ -60,11 +61,12 @@ pub fn reply(
         origin,
         class,
     };
+    let queries = one_question(alloc, &query.queries)?;
     let answer = match header_refusal(query) {
         Some(code) => only_code(alloc, code),
         None => answer_to(&zone, &query.queries)?,
     };
-    Ok(Some(framed(alloc, query, answer)?))
+    Ok(Some(framed(alloc, query, queries, answer)))
 }
 
 /// What a query is refused with before its question is looked at.
@@ -80,6 +82,14 @@ pub(crate) fn header_refusal(query: &Message) -> Option<ResponseCode>
     }
 }
 
+/// Whether a question is of a class, without its top bit set.
+pub(crate) fn is_of_class(question: &Query, class: DNSClass) -> bool
+    ensures { result
+        ≡ (same_class question.now.query_class class && not question.now.mdns_unicast_response) }
+{
+    question.query_class == class && !question.mdns_unicast_response
+}
+
 /// What a question is refused with, if it is.
 fn question_refusal(
     zone: &ZoneRef<'_>,
@@ -87,10 +97,10 @@ fn question_refusal(
 ) -> Result<Option<ResponseCode>, AllocError>
     ensures { IfOk result (λ code. code ≡ the_refusal (zone_of zone.now) question.now) }
 {
-    if question.query_class != zone.class || question.mdns_unicast_response {
+    if !is_of_class(question, zone.class) {
         return Ok(Some(ResponseCode::Refused));
     }
-    if question.query_type != RecordType::ANY && is_meta(question.query_type) {
+    if !is_answered(question.query_type) {
         return Ok(Some(ResponseCode::NotImp));
     }
     if !is_within(zone.origin, &question.name) {
@@ -109,6 +119,13 @@ fn has_soa(zone: &ZoneRef<'_>) -> Result<bool, AllocError>
 {
     let key = RrKey::of(zone.origin, RecordType::SOA)?;
     Ok(zone.sets.contains_key(&key))
+}
+
+/// Whether a question may be for a type: one that records have, or all.
+fn is_answered(record_type: RecordType) -> bool
+    ensures { result ≡ (is_any record_type || not (is_meta_type record_type)) }
+{
+    record_type == RecordType::ANY || !is_meta(record_type)
 }
 
 /// Whether no record has the type (RFC 6895, 3.1).
@@ -160,7 +177,7 @@ fn answer_to(zone: &ZoneRef<'_>, questions: &[Query]) -> Result<Answer, ProtoErr
 }
 
 /// The one question; of several none.
-fn one_question(alloc: Global, questions: &[Query]) -> Result<Vec<Query>, AllocError>
+pub(crate) fn one_question(alloc: Global, questions: &[Query]) -> Result<Vec<Query>, AllocError>
     ensures { IfOk result (λ v. v.items ≡ the_question questions.now) }
 {
     let [question] = questions else {
@@ -170,7 +187,7 @@ fn one_question(alloc: Global, questions: &[Query]) -> Result<Vec<Query>, AllocE
 }
 
 /// EDNS of a response, where the query has it. Takes no memory.
-fn reply_edns(alloc: Global, edns: Option<&Edns>) -> Option<Edns>
+pub fn reply_edns(alloc: Global, edns: Option<&Edns>) -> Option<Edns>
     ensures { result ≡ option_map edns_of_reply (option_copied edns.entry) }
 {
     let edns = edns?;
@@ -179,12 +196,14 @@ fn reply_edns(alloc: Global, edns: Option<&Edns>) -> Option<Edns>
     Some(reply)
 }
 
-/// An answer as a message.
-pub(crate) fn framed(alloc: Global, query: &Message, answer: Answer) -> Result<Message, AllocError>
-    ensures { IfOk result (λ m. message_value m ≡ the_frame (message_value query.now) (answer_value answer)) }
+/// An answer as a message with these questions. Takes no memory.
+pub(crate) fn framed(alloc: Global, query: &Message, queries: Vec<Query>, answer: Answer) -> Message
+    ensures { message_value result
+        ≡ record (the_frame (message_value query.now) (answer_value answer)) {
+          queries = queries.items;
+        } }
 {
-    let queries = one_question(alloc, &query.queries)?;
-    Ok(Message {
+    Message {
         metadata: Metadata {
             authoritative: answer.authoritative,
             response_code: answer.response_code,
@@ -196,5 +215,5 @@ pub(crate) fn framed(alloc: Global, query: &Message, answer: Answer) -> Result<M
         additionals: answer.additionals,
         signature: None,
         edns: reply_edns(alloc, query.edns.as_ref()),
-    })
+    }
 }

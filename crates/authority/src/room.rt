@@ -36,9 +36,8 @@ pub(crate) fn room_after(room: usize, entry: &Record) -> Option<usize>
     ensures { MatchOption result (room < plain_record entry.now)
         (λ left. left + plain_record entry.now ≡ room) }
 {
-    let after_name = room_after_name(room, &entry.name)?;
-    // type, class, TTL and the length of the data
-    let after_fields = after_name.checked_sub(10)?;
+    // the name, and type, class, TTL and the length of the data
+    let after_fields = room_after_name(room, 10, &entry.name)?;
     room_after_data(after_fields, &entry.rdata)
 }
 
@@ -50,12 +49,12 @@ fn name_len(name: &Name) -> usize
     name.as_wire().len() + 1
 }
 
-/// What is left after a name.
-fn room_after_name(room: usize, name: &Name) -> Option<usize>
-    ensures { MatchOption result (room < plain_len name.now.labels)
-        (λ left. left + plain_len name.now.labels ≡ room) }
+/// What is left after so many bytes and a name.
+fn room_after_name(room: usize, before: u8, name: &Name) -> Option<usize>
+    ensures { MatchOption result (room < before + plain_len name.now.labels)
+        (λ left. left + (before + plain_len name.now.labels) ≡ room) }
 {
-    room.checked_sub(name_len(name))
+    room.checked_sub(usize::from(before) + name_len(name))
 }
 
 /// What is left after bytes.
@@ -74,16 +73,13 @@ fn room_after_data(room: usize, rdata: &RData) -> Option<usize>
     match rdata {
         RData::A(a) => room_after_bytes(room, &a.octets),
         RData::AAAA(aaaa) => room_after_bytes(room, &aaaa.octets),
-        RData::NS(ns) => room_after_name(room, ns.name()),
-        RData::CNAME(cname) => room_after_name(room, cname.name()),
-        RData::PTR(ptr) => room_after_name(room, ptr.name()),
-        RData::ANAME(aname) => room_after_name(room, aname.name()),
-        RData::MX(mx) => room_after_name(room.checked_sub(2)?, mx.exchange()),
-        RData::SOA(soa) => {
-            let after_mname = room_after_name(room, soa.mname())?;
-            room_after_name(after_mname.checked_sub(20)?, soa.rname())
-        }
-        RData::SRV(srv) => room_after_name(room.checked_sub(6)?, srv.target()),
+        RData::NS(ns) => room_after_name(room, 0, ns.name()),
+        RData::CNAME(cname) => room_after_name(room, 0, cname.name()),
+        RData::PTR(ptr) => room_after_name(room, 0, ptr.name()),
+        RData::ANAME(aname) => room_after_name(room, 0, aname.name()),
+        RData::MX(mx) => room_after_name(room, 2, mx.exchange()),
+        RData::SOA(soa) => room_after_name(room_after_name(room, 20, soa.mname())?, 0, soa.rname()),
+        RData::SRV(srv) => room_after_name(room, 6, srv.target()),
         RData::TXT(txt) => room_after_strings(room, txt),
         RData::NULL(null) => room_after_bytes(room, null.bytes()),
         RData::OPT(opt) => room_after_options(room, opt.as_ref()),

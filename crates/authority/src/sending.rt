@@ -65,8 +65,8 @@ pub fn respond(
     }
 }
 
-/// The most bytes that are sent to one who takes so many.
-fn most_sent(carrier: Carrier, taken: u16) -> u16
+/// The most bytes that are sent to one who takes so many: by datagram at least 512 (RFC 6891, 6.2.5).
+pub fn most_sent(carrier: Carrier, taken: u16) -> u16
     ensures { result ≡ the_most carrier taken }
 {
     match carrier {
@@ -94,19 +94,18 @@ fn send(reply: Option<Message>, limit: u16) -> Result<Option<Vec<u8>>, ProtoErro
         ⊎ (sent_of limit (option_map message_value reply) ≡ Err e)) }
 {
     match reply {
-        Some(reply) => Ok(Some(bytes_of(reply, limit)?)),
+        Some(mut reply) => Ok(Some(bytes_of(&mut reply, limit)?)),
         None => Ok(None),
     }
 }
 
 /// The bytes of a reply under a limit. Where they don't hold all of it and it is no referral, which has authorities,
 /// its additional records are left out (RFC 2181, 9).
-fn bytes_of(reply: Message, limit: u16) -> Result<Vec<u8>, ProtoError>
-    ensures bytes { IfOk result (λ v. the_bytes limit (message_value reply) ≡ Ok v.items) }
+fn bytes_of(reply: &mut Message, limit: u16) -> Result<Vec<u8>, ProtoError>
+    ensures bytes { IfOk result (λ v. the_bytes limit (message_value reply.old) ≡ Ok v.items) }
     ensures refused { IfErr result (λ e. (e ≡ ProtoError.Memory)
-        ⊎ (the_bytes limit (message_value reply) ≡ Err e)) }
+        ⊎ (the_bytes limit (message_value reply.old) ≡ Err e)) }
 {
-    let mut reply = reply;
     let bytes = reply.to_vec_within(limit)?;
     if !is_cut(&bytes) || !reply.authorities.is_empty() {
         return Ok(bytes);

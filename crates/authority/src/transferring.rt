@@ -1,15 +1,16 @@
 //! Which messages a server sends for a zone transfer (RFC 5936, 2.2).
 
-ghost use Rattle.authority.specs.Reply.{framed as the_frame, header_refusal as the_header_refusal, only_code as the_code};
-ghost use Rattle.authority.specs.Transfer.{IsFull, IsNextOf, IsTooLarge, IsTransferred, axfr_refusal as the_axfr_refusal, is_end, left_at, one_axfr_refusal as the_one_refusal, records_from, room_beside as the_room, soa_of as the_soa};
-ghost use Rattle.op.specs.Message.{message_value};
+ghost use Rattle.authority.specs.Reply.{framed as the_frame, header_refusal as the_header_refusal, one_question as the_question, only_code as the_code};
+ghost use Rattle.authority.specs.Transfer.{IsFull, IsNextOf, IsTooLarge, IsTransferred, axfr_refusal as the_axfr_refusal, is_end, left_at, one_axfr_refusal as the_one_refusal, questions_at as the_questions, records_from, room_beside as the_room, soa_of as the_soa};
+ghost use Rattle.authority.specs.declared.transferring.TransferPlace.{TransferPlace as Place};
+ghost use Rattle.op.specs.Message.{MessageValue, message_value};
 ghost use Rattle.op_use.specs.Server.{and_then};
-ghost use Rattle.std.specs.Prelude.{IfErr, IfOk, false, option_map, slice_get, ◌≡◌, ◌⊎◌};
+ghost use Rattle.std.specs.Prelude.{IfErr, IfOk, IsOkUnless, Some, false, option_map, slice_get, ◌≡◌, ◌⊎◌};
 
 use crate::answer::plain;
 use crate::filling::Answers;
 use crate::records::{least_ttl, record_of};
-use crate::replies::{framed, header_refusal, only_code};
+use crate::replies::{framed, header_refusal, is_of_class, one_question, only_code};
 use crate::room::room_beside;
 use crate::zone_ref::ZoneRef;
 use base::{DNSClass, Name, ProtoError, RecordType, RrKey};
@@ -78,11 +79,11 @@ pub fn transfer(
         class,
     };
     if let Some(code) = refusal(origin, class, query) {
-        return Ok(Some(refused(alloc, query, code)?));
+        return refused(alloc, query, code);
     }
     match soa_of(&zone)? {
         Some(soa) => next_message(&zone, &soa, query, place),
-        None => Ok(Some(refused(alloc, query, ResponseCode::ServFail)?)),
+        None => refused(alloc, query, ResponseCode::ServFail),
     }
 }
 
@@ -104,7 +105,7 @@ fn refusal(origin: &Name, class: DNSClass, query: &Message) -> Option<ResponseCo
 fn question_refusal(origin: &Name, class: DNSClass, question: &Query) -> Option<ResponseCode>
     ensures { result ≡ the_axfr_refusal origin.now class question.now }
 {
-    if question.query_class != class || question.mdns_unicast_response {
+    if !is_of_class(question, class) {
         return Some(ResponseCode::Refused);
     }
     if question.query_type != RecordType::AXFR {
@@ -121,13 +122,15 @@ fn refused(
     alloc: Global,
     query: &Message,
     code: ResponseCode,
-) -> Result<(Message, TransferPlace), AllocError>
-    ensures message { IfOk result (λ r. message_value r.0
-        ≡ the_frame (message_value query.now) (the_code code)) }
-    ensures end { IfOk result (λ r. r.1 ≡ TransferPlace.End) }
+) -> Result<Option<(Message, TransferPlace)>, ProtoError>
+    ensures refused { IfOk result (λ o. option_map {U = MessageValue × Place}
+        (λ r. (message_value r.0, r.1)) o
+        ≡ Some (the_frame (message_value query.now) (the_code code), TransferPlace.End)) }
+    ensures only { IsOkUnless result ProtoError.Memory }
 {
-    let message = framed(alloc, query, only_code(alloc, code))?;
-    Ok((message, TransferPlace::End))
+    let queries = one_question(alloc, &query.queries)?;
+    let message = framed(alloc, query, queries, only_code(alloc, code));
+    Ok(Some((message, TransferPlace::End)))
 }
 
 /// The SOA that a transfer begins and ends with.
@@ -155,6 +158,20 @@ fn first_answer(class: DNSClass, set: &RecordSet) -> Result<Option<Record>, Allo
     Ok(None)
 }
 
+/// The questions of a message of a transfer: the first has the question of the query.
+fn questions_at(
+    alloc: Global,
+    place: &TransferPlace,
+    questions: &[Query],
+) -> Result<Vec<Query>, AllocError>
+    ensures { IfOk result (λ v. v.items ≡ the_questions place.now (the_question questions.now)) }
+{
+    match place {
+        TransferPlace::Start => one_question(alloc, questions),
+        _ => Ok(Vec::new(alloc)),
+    }
+}
+
 /// The next message of a transfer with this SOA, and the place after it.
 fn next_message(
     zone: &ZoneRef<'_>,
@@ -175,11 +192,7 @@ fn next_message(
     if answers.records.is_empty() {
         return Err(ProtoError::MaxBufferSizeExceeded);
     }
+    let queries = questions_at(zone.alloc, place, &query.queries)?;
     let answer = plain(zone.alloc, ResponseCode::NoError, answers.records);
-    let mut message = framed(zone.alloc, query, answer)?;
-    match place {
-        TransferPlace::Start => {}
-        _ => message.queries.clear(),
-    }
-    Ok(Some((message, next)))
+    Ok(Some((framed(zone.alloc, query, queries, answer), next)))
 }

@@ -1,139 +1,138 @@
 //! What is answered to questions (RFC 1034, 4.3.2).
 
-ghost use Rattle.authority.specs.ZoneRef.{AreUnderKeys};
-
-mod cuts;
-mod long_names;
-mod names;
-
-use crate::zone::{long_zone, zone};
-use authority::{Answer, answer_question};
-use base::{DNSClass, Name, RecordType, RrKey};
-use cuts::{CUTS, WILDCARDS};
-use long_names::LONG_NAMES;
-use names::{ALIASES, NAMES};
-use op::ResponseCode;
-use rr::{Record, RecordSet};
-use std::alloc::{AllocError, Global};
-use std::collections::BTreeMap;
+use crate::rows::{Call, first_wrong};
+use crate::zone::{LONG, ZONE};
 use std::test::Fail;
 
-/// What is asked; the code, and whether AA is set; and the records of the three sections: owner, TTL and type of each.
-type Row = (
-    &'static str,
-    RecordType,
-    ResponseCode,
-    bool,
-    &'static str,
-    &'static str,
-    &'static str,
-);
+/// Names of the zone and others.
+const NAMES: &str = "\
+@ SOA => No Error AA | example. 7200 SOA; | |
+@ A => No Error AA | | example. 300 SOA; |
+@ DS => No Error AA | | example. 300 SOA; |
+@ NS => No Error AA | example. 3600 NS; example. 3600 NS; | | ns1.example. 3600 A; ns1.example. 3600 AAAA;
+@ MX => No Error AA | example. 3600 MX; example. 3600 MX; | | mail.example. 3600 A;
+WwW A => No Error AA | WwW.example. 3600 A; WwW.example. 3600 A; | |
+www AAAA => No Error AA | | example. 300 SOA; |
+nothing A => Non-Existent Domain AA | | example. 300 SOA; |
+nothing SOA => Non-Existent Domain AA | | example. 300 SOA; |
+x.www A => Non-Existent Domain AA | | example. 300 SOA; |
+nothing.EXAMPLE. A => Non-Existent Domain AA | | EXAMPLE. 300 SOA; |
+_sip._tcp SRV => No Error AA | _sip._tcp.example. 3600 SRV; | | mail.example. 3600 A;
+ttls A => No Error AA | ttls.example. 100 A; ttls.example. 100 A; | |
+www ANY => No Error AA | www.example. 3600 A; www.example. 3600 A; www.example. 3600 TXT; | |
+";
 
-/// The SOA of a negative answer.
-const S: &str = "example. 300 SOA; ";
+/// Aliases (RFC 1034, 3.6.2; RFC 6604, 2.1).
+const ALIASES: &str = "\
+alias A => No Error AA | alias.example. 3600 CNAME; www.example. 3600 A; www.example. 3600 A; | |
+alias CNAME => No Error AA | alias.example. 3600 CNAME; | |
+alias AAAA => No Error AA | alias.example. 3600 CNAME; | example. 300 SOA; |
+alias ANY => No Error AA | alias.example. 3600 CNAME; | |
+alias2 A => No Error AA | alias2.example. 3600 CNAME; ALIAS.example. 3600 CNAME; www.example. 3600 A; www.example. 3600 A; | |
+out A => No Error AA | out.example. 3600 CNAME; | |
+gone A => Non-Existent Domain AA | gone.example. 3600 CNAME; | example. 300 SOA; |
+loop A => Server Failure AA | loop.example. 3600 CNAME; loop2.example. 3600 CNAME; | |
+self A => Server Failure AA | self.example. 3600 CNAME; | |
+y.lwild A => Server Failure AA | y.lwild.example. 3600 CNAME; x.lwild.example. 3600 CNAME; | |
+tochild A => No Error AA | tochild.example. 3600 CNAME; | child.example. 3600 NS; child.example. 3600 NS; child.example. 3600 NS; | ns.child.example. 3600 A; ns.child.example. 3600 AAAA; ns.other.example. 3600 A;
+tonx A => Non-Existent Domain AA | tonx.example. 3600 CNAME; | example. 300 SOA; |
+toent A => No Error AA | toent.example. 3600 CNAME; | example. 300 SOA; |
+towild MX => No Error AA | towild.example. 3600 CNAME; any.wild.example. 3600 MX; | | mail.example. 3600 A;
+";
 
-/// The name servers of `child`.
-const R: &str = "child.example. 3600 NS; child.example. 3600 NS; child.example. 3600 NS; ";
+/// Wildcards and empty non-terminals (RFC 4592).
+const WILDCARDS: &str = "\
+any.wild A => No Error AA | any.wild.example. 3600 A; | |
+a.b.wild MX => No Error AA | a.b.wild.example. 3600 MX; | | mail.example. 3600 A;
+any.wild AAAA => No Error AA | | example. 300 SOA; |
+*.wild A => No Error AA | *.wild.example. 3600 A; | |
+x.*.wild A => Non-Existent Domain AA | | example. 300 SOA; |
+host.wild MX => No Error AA | | example. 300 SOA; |
+x.host.wild A => Non-Existent Domain AA | | example. 300 SOA; |
+ent.wild A => No Error AA | | example. 300 SOA; |
+x.ent.wild A => Non-Existent Domain AA | | example. 300 SOA; |
+x.cwild A => No Error AA | x.cwild.example. 3600 CNAME; www.example. 3600 A; www.example. 3600 A; | |
+x.cwild CNAME => No Error AA | x.cwild.example. 3600 CNAME; | |
+x.gwild A => Non-Existent Domain AA | x.gwild.example. 3600 CNAME; | example. 300 SOA; |
+x.star TXT => No Error AA | | example. 300 SOA; |
+b.ent A => No Error AA | | example. 300 SOA; |
+x.b.ent A => Non-Existent Domain AA | | example. 300 SOA; |
+";
 
-/// Their glue.
-const G: &str = "ns.child.example. 3600 A; ns.child.example. 3600 AAAA; ns.other.example. 3600 A; ";
+/// Referrals, and hosts at cuts, wildcards and aliases.
+const CUTS: &str = "\
+child NS => No Error | | child.example. 3600 NS; child.example. 3600 NS; child.example. 3600 NS; | ns.child.example. 3600 A; ns.child.example. 3600 AAAA; ns.other.example. 3600 A;
+child TXT => No Error | | child.example. 3600 NS; child.example. 3600 NS; child.example. 3600 NS; | ns.child.example. 3600 A; ns.child.example. 3600 AAAA; ns.other.example. 3600 A;
+child ANY => No Error | | child.example. 3600 NS; child.example. 3600 NS; child.example. 3600 NS; | ns.child.example. 3600 A; ns.child.example. 3600 AAAA; ns.other.example. 3600 A;
+www.child A => No Error | | child.example. 3600 NS; child.example. 3600 NS; child.example. 3600 NS; | ns.child.example. 3600 A; ns.child.example. 3600 AAAA; ns.other.example. 3600 A;
+ns.child A => No Error | | child.example. 3600 NS; child.example. 3600 NS; child.example. 3600 NS; | ns.child.example. 3600 A; ns.child.example. 3600 AAAA; ns.other.example. 3600 A;
+ns.child DS => No Error | | child.example. 3600 NS; child.example. 3600 NS; child.example. 3600 NS; | ns.child.example. 3600 A; ns.child.example. 3600 AAAA; ns.other.example. 3600 A;
+x.grand.child A => No Error | | child.example. 3600 NS; child.example. 3600 NS; child.example. 3600 NS; | ns.child.example. 3600 A; ns.child.example. 3600 AAAA; ns.other.example. 3600 A;
+child DS => No Error AA | | example. 300 SOA; |
+signed DS => No Error AA | signed.example. 3600 DS; | |
+signed A => No Error | | signed.example. 3600 NS; |
+x.KIN A => No Error | | KIN.example. 3600 NS; | ns1.example. 3600 A; ns1.example. 3600 AAAA;
+mxbelow MX => No Error AA | mxbelow.example. 3600 MX; | |
+mxwild MX => No Error AA | mxwild.example. 3600 MX; | | any.wild.example. 3600 A;
+mxalias MX => No Error AA | mxalias.example. 3600 MX; | |
+";
 
-/// The addresses of `mail`.
-const M: &str = "mail.example. 3600 A; ";
-
-/// The owner, the TTL and the type of each record.
-fn section(alloc: Global, records: &[Record]) -> Result<String, AllocError> {
-    let mut text = String::new(alloc);
-    for record in records {
-        let line = format!(in alloc; "{} {} {}; ", record.name, record.ttl, record.record_type())?;
-        text.push_str(line.as_str())?;
-    }
-    Ok(text)
-}
-
-/// Whether an answer is what a row says.
-fn is_row(alloc: Global, answer: &Answer, row: &Row) -> Result<bool, AllocError> {
-    let answers = section(alloc, &answer.answers)?;
-    let authorities = section(alloc, &answer.authorities)?;
-    let additionals = section(alloc, &answer.additionals)?;
-    Ok(
-        answer.response_code == row.2
-            && answer.authoritative == row.3
-            && answers.as_str() == row.4
-            && authorities.as_str() == row.5
-            && additionals.as_str() == row.6,
-    )
-}
-
-/// Whether the sets answer a row.
-fn is_answered(
-    alloc: Global,
-    origin: &Name,
-    sets: &BTreeMap<RrKey, RecordSet>,
-    row: &Row,
-) -> Result<bool, Fail>
-    requires { AreUnderKeys sets.now }
-{
-    let name = Name::parse(alloc, row.0, Some(origin))?;
-    let answer = answer_question(alloc, sets, origin, DNSClass::IN, &name, row.1)?;
-    Ok(is_row(alloc, &answer, row)?)
-}
-
-/// The first row that isn't answered so by the sets, or the number of rows.
-fn first_wrong_of(
-    alloc: Global,
-    origin: &Name,
-    sets: &BTreeMap<RrKey, RecordSet>,
-    rows: &[Row],
-) -> Result<usize, Fail>
-    requires { AreUnderKeys sets.now }
-{
-    for (i, row) in rows.iter().enumerate() {
-        if !is_answered(alloc, origin, sets, row)? {
-            return Ok(i);
-        }
-    }
-    Ok(rows.len())
-}
-
-/// The same by the zone.
-fn first_wrong(alloc: Global, rows: &[Row]) -> Result<usize, Fail> {
-    let (origin, sets) = zone(alloc)?;
-    first_wrong_of(alloc, &origin, &sets, rows)
-}
+/// Names that take memory of their own: of the zone and others, aliases, wildcards and referrals.
+const LONG_NAMES: &str = "\
+@ SOA => No Error AA | a-name-with-memory-of-its-own.example. 7200 SOA; | |
+@ NS => No Error AA | a-name-with-memory-of-its-own.example. 3600 NS; a-name-with-memory-of-its-own.example. 3600 NS; | | ns1.a-name-with-memory-of-its-own.example. 3600 A; ns1.a-name-with-memory-of-its-own.example. 3600 AAAA;
+@ MX => No Error AA | a-name-with-memory-of-its-own.example. 3600 MX; | | mail.a-name-with-memory-of-its-own.example. 3600 A; mail.a-name-with-memory-of-its-own.example. 3600 AAAA;
+WwW A => No Error AA | WwW.a-name-with-memory-of-its-own.example. 3600 A; WwW.a-name-with-memory-of-its-own.example. 3600 A; | |
+www ANY => No Error AA | www.a-name-with-memory-of-its-own.example. 3600 A; www.a-name-with-memory-of-its-own.example. 3600 A; www.a-name-with-memory-of-its-own.example. 3600 TXT; | |
+www AAAA => No Error AA | | a-name-with-memory-of-its-own.example. 300 SOA; |
+wild ANY => No Error AA | | a-name-with-memory-of-its-own.example. 300 SOA; |
+x.nothing A => Non-Existent Domain AA | | a-name-with-memory-of-its-own.example. 300 SOA; |
+alias A => No Error AA | alias.a-name-with-memory-of-its-own.example. 3600 CNAME; between.a-name-with-memory-of-its-own.example. 3600 CNAME; www.a-name-with-memory-of-its-own.example. 3600 A; www.a-name-with-memory-of-its-own.example. 3600 A; | |
+alias ANY => No Error AA | alias.a-name-with-memory-of-its-own.example. 3600 CNAME; | |
+gone A => Non-Existent Domain AA | gone.a-name-with-memory-of-its-own.example. 3600 CNAME; | a-name-with-memory-of-its-own.example. 300 SOA; |
+loop A => Server Failure AA | loop.a-name-with-memory-of-its-own.example. 3600 CNAME; | |
+x.any.wild A => No Error AA | x.any.wild.a-name-with-memory-of-its-own.example. 3600 A; | |
+x.wild SRV => No Error AA | x.wild.a-name-with-memory-of-its-own.example. 3600 SRV; | | mail.a-name-with-memory-of-its-own.example. 3600 A; mail.a-name-with-memory-of-its-own.example. 3600 AAAA;
+x.wild ANY => No Error AA | x.wild.a-name-with-memory-of-its-own.example. 3600 A; x.wild.a-name-with-memory-of-its-own.example. 3600 SRV; | |
+x.wild AAAA => No Error AA | | a-name-with-memory-of-its-own.example. 300 SOA; |
+x.cwild A => No Error AA | x.cwild.a-name-with-memory-of-its-own.example. 3600 CNAME; www.a-name-with-memory-of-its-own.example. 3600 A; www.a-name-with-memory-of-its-own.example. 3600 A; | |
+child A => No Error | | child.a-name-with-memory-of-its-own.example. 3600 NS; | ns.child.a-name-with-memory-of-its-own.example. 3600 A; ns.child.a-name-with-memory-of-its-own.example. 3600 AAAA;
+x.www.child A => No Error | | child.a-name-with-memory-of-its-own.example. 3600 NS; | ns.child.a-name-with-memory-of-its-own.example. 3600 A; ns.child.a-name-with-memory-of-its-own.example. 3600 AAAA;
+child DS => No Error AA | | a-name-with-memory-of-its-own.example. 300 SOA; |
+tochild A => No Error AA | tochild.a-name-with-memory-of-its-own.example. 3600 CNAME; | child.a-name-with-memory-of-its-own.example. 3600 NS; | ns.child.a-name-with-memory-of-its-own.example. 3600 A; ns.child.a-name-with-memory-of-its-own.example. 3600 AAAA;
+";
 
 #[test]
 fn names_are_answered(rt: HostRuntime) -> Result<(), Fail> {
-    let wrong = first_wrong(rt.alloc(), NAMES)?;
-    assert_eq!(rt; wrong, NAMES.len());
+    let wrong = first_wrong(rt.alloc(), ZONE, Call::Answer, NAMES)?;
+    assert_eq!(rt; wrong, None);
     Ok(())
 }
 
 #[test]
 fn aliases_are_followed(rt: HostRuntime) -> Result<(), Fail> {
-    let wrong = first_wrong(rt.alloc(), ALIASES)?;
-    assert_eq!(rt; wrong, ALIASES.len());
+    let wrong = first_wrong(rt.alloc(), ZONE, Call::Answer, ALIASES)?;
+    assert_eq!(rt; wrong, None);
     Ok(())
 }
 
 #[test]
 fn wildcards_are_answered(rt: HostRuntime) -> Result<(), Fail> {
-    let wrong = first_wrong(rt.alloc(), WILDCARDS)?;
-    assert_eq!(rt; wrong, WILDCARDS.len());
+    let wrong = first_wrong(rt.alloc(), ZONE, Call::Answer, WILDCARDS)?;
+    assert_eq!(rt; wrong, None);
     Ok(())
 }
 
 #[test]
 fn cuts_are_referred(rt: HostRuntime) -> Result<(), Fail> {
-    let wrong = first_wrong(rt.alloc(), CUTS)?;
-    assert_eq!(rt; wrong, CUTS.len());
+    let wrong = first_wrong(rt.alloc(), ZONE, Call::Answer, CUTS)?;
+    assert_eq!(rt; wrong, None);
     Ok(())
 }
 
 #[test]
 fn long_names_are_answered(rt: HostRuntime) -> Result<(), Fail> {
-    let (origin, sets) = long_zone(rt.alloc())?;
-    let wrong = first_wrong_of(rt.alloc(), &origin, &sets, LONG_NAMES)?;
-    assert_eq!(rt; wrong, LONG_NAMES.len());
+    let wrong = first_wrong(rt.alloc(), LONG, Call::Answer, LONG_NAMES)?;
+    assert_eq!(rt; wrong, None);
     Ok(())
 }

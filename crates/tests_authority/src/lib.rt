@@ -9,6 +9,8 @@ mod lookups;
 #[cfg(test)]
 mod responses;
 #[cfg(test)]
+mod rows;
+#[cfg(test)]
 mod transfers;
 #[cfg(test)]
 mod zone;

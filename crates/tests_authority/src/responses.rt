@@ -2,7 +2,7 @@
 
 ghost use Rattle.authority.specs.ZoneRef.{AreUnderKeys};
 
-use crate::zone::{long_zone, wide_zone, zone};
+use crate::zone::{self, ZONE, parsed};
 use authority::{Carrier, respond};
 use base::{DNSClass, Name, RrKey};
 use op::Message;
@@ -216,17 +216,11 @@ fn is_sent(
     Ok(text.as_str() == row.1 && reply.metadata.id == 0x1234)
 }
 
-/// The first row that isn't answered so, or the number of rows.
-fn first_wrong(
-    alloc: Global,
-    origin: &Name,
-    sets: &BTreeMap<RrKey, RecordSet>,
-    rows: &[Row],
-) -> Result<usize, Fail>
-    requires { AreUnderKeys sets.now }
-{
+/// The first row that isn't answered so by the zone of a text, or the number of rows.
+fn first_wrong(alloc: Global, zone: &str, rows: &[Row]) -> Result<usize, Fail> {
+    let (origin, sets) = parsed(alloc, zone)?;
     for (i, row) in rows.iter().enumerate() {
-        if !is_sent(alloc, origin, sets, row)? {
+        if !is_sent(alloc, &origin, &sets, row)? {
             return Ok(i);
         }
     }
@@ -235,40 +229,35 @@ fn first_wrong(
 
 #[test]
 fn questions_are_answered(rt: HostRuntime) -> Result<(), Fail> {
-    let (origin, sets) = zone(rt.alloc())?;
-    let wrong = first_wrong(rt.alloc(), &origin, &sets, QUESTIONS)?;
+    let wrong = first_wrong(rt.alloc(), ZONE, QUESTIONS)?;
     assert_eq!(rt; wrong, QUESTIONS.len());
     Ok(())
 }
 
 #[test]
 fn edns_is_answered(rt: HostRuntime) -> Result<(), Fail> {
-    let (origin, sets) = zone(rt.alloc())?;
-    let wrong = first_wrong(rt.alloc(), &origin, &sets, EDNS)?;
+    let wrong = first_wrong(rt.alloc(), ZONE, EDNS)?;
     assert_eq!(rt; wrong, EDNS.len());
     Ok(())
 }
 
 #[test]
 fn other_messages_are_refused(rt: HostRuntime) -> Result<(), Fail> {
-    let (origin, sets) = zone(rt.alloc())?;
-    let wrong = first_wrong(rt.alloc(), &origin, &sets, OTHERS)?;
+    let wrong = first_wrong(rt.alloc(), ZONE, OTHERS)?;
     assert_eq!(rt; wrong, OTHERS.len());
     Ok(())
 }
 
 #[test]
 fn what_has_no_room_is_left_out(rt: HostRuntime) -> Result<(), Fail> {
-    let (origin, sets) = wide_zone(rt.alloc())?;
-    let wrong = first_wrong(rt.alloc(), &origin, &sets, WIDE)?;
+    let wrong = first_wrong(rt.alloc(), zone::WIDE, WIDE)?;
     assert_eq!(rt; wrong, WIDE.len());
     Ok(())
 }
 
 #[test]
 fn questions_for_long_names_are_answered(rt: HostRuntime) -> Result<(), Fail> {
-    let (origin, sets) = long_zone(rt.alloc())?;
-    let wrong = first_wrong(rt.alloc(), &origin, &sets, LONG)?;
+    let wrong = first_wrong(rt.alloc(), zone::LONG, LONG)?;
     assert_eq!(rt; wrong, LONG.len());
     Ok(())
 }

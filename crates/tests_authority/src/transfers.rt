@@ -1,6 +1,6 @@
 //! Which messages are sent for a zone transfer (RFC 5936, 2.2).
 
-use crate::zone::{LONG_ORIGIN, parsed, zone};
+use crate::zone::{LONG_ORIGIN, ZONE, parsed};
 use authority::{TransferPlace, transfer};
 use base::{DNSClass, Name, RecordType, RrKey};
 use base_data::RData;
@@ -68,51 +68,81 @@ const LONG_QUERY: &[u8] =
 struct Outcome {
     /// How many messages there were.
     messages: usize,
+    /// The code of the last one, and whether it has AA.
+    last: (u16, bool),
     /// Whether each was sent as it has to be.
     is_right: bool,
     /// All answers.
     records: Vec<Record>,
 }
 
-/// Whether a message of a transfer is uncut, and has AA, EDNS and answers alone; the first a question.
-fn is_right(message: &Message, is_first: bool) -> Result<bool, Fail> {
-    let bytes = message.to_vec()?;
-    let read = Message::from_vec(*message.answers.allocator(), &bytes)?;
-    let questions = if is_first { 1 } else { 0 };
-    let is_answer = read.metadata.authoritative && !read.metadata.truncation;
-    let has_parts = read.queries.len() == questions && read.edns.is_some();
-    let is_whole = read.answers == message.answers && !read.answers.is_empty();
-    Ok(is_answer && has_parts && is_whole && read.authorities.is_empty())
+/// Whether what is read of a message of a transfer is the message, uncut, and has AA, EDNS and answers alone; the first
+/// a question.
+fn is_read_right(read: &Message, message: &Message, is_first: bool) -> bool {
+    read.metadata.authoritative
+        && !read.metadata.truncation
+        && read.queries.len() == usize::from(is_first)
+        && read.edns.is_some()
+        && read.answers == message.answers
+        && !read.answers.is_empty()
+        && read.authorities.is_empty()
 }
 
-/// All messages of a transfer that is asked for so, up to so many.
+/// Whether a message of a transfer is as it has to be.
+fn is_right(alloc: Global, message: &Message, is_first: bool) -> Result<bool, Fail> {
+    let bytes = message.to_vec()?;
+    let read = Message::from_vec(alloc, &bytes)?;
+    Ok(is_read_right(&read, message, is_first))
+}
+
+/// Notes a message of a transfer, and moves its answers.
+fn note(alloc: Global, all: &mut Outcome, message: &mut Message) -> Result<(), Fail> {
+    let is_right = is_right(alloc, message, all.messages == 0)?;
+    all.is_right = all.is_right && is_right;
+    all.messages = usize::saturating_add(all.messages, 1);
+    let code = u16::from(message.metadata.response_code);
+    all.last = (code, message.metadata.authoritative);
+    all.records.append(&mut message.answers)?;
+    Ok(())
+}
+
+/// Goes on with a transfer by a message, if there is one; answers whether there is.
+fn go_on(
+    alloc: Global,
+    origin: &Name,
+    sets: &BTreeMap<RrKey, RecordSet>,
+    query: &Message,
+    place: &mut TransferPlace,
+    all: &mut Outcome,
+) -> Result<bool, Fail> {
+    let step = transfer(alloc, sets, origin, DNSClass::IN, query, place)?;
+    let Some((mut message, next)) = step else {
+        return Ok(false);
+    };
+    *place = next;
+    note(alloc, all, &mut message)?;
+    Ok(true)
+}
+
+/// All messages of a transfer that is asked for so; it isn't right where there are more than so many.
 fn transferred(
     alloc: Global,
     origin: &Name,
     sets: &BTreeMap<RrKey, RecordSet>,
-    query: &[u8],
+    query: &Message,
     most: usize,
 ) -> Result<Outcome, Fail> {
-    let query = Message::from_vec(alloc, query)?;
     let mut all = Outcome {
         messages: 0,
+        last: (0, false),
         is_right: true,
         records: Vec::new(alloc),
     };
     let mut place = TransferPlace::Start;
-    for number in 0..most {
-        let step = transfer(alloc, sets, origin, DNSClass::IN, &query, &place)?;
-        let Some((message, next)) = step else {
+    for _ in 0..most {
+        if !go_on(alloc, origin, sets, query, &mut place, &mut all)? {
             return Ok(all);
-        };
-        if !is_right(&message, number == 0)? {
-            all.is_right = false;
         }
-        all.messages = number + 1;
-        for record in &message.answers {
-            all.records.push(record.clone()?)?;
-        }
-        place = next;
     }
     all.is_right = false;
     Ok(all)
@@ -126,34 +156,72 @@ fn is_soa(record: Option<&Record>) -> bool {
     }
 }
 
-/// Whether a transfer has, between two SOAs, all records of the sets in their order.
-fn is_whole(all: &Outcome, sets: &BTreeMap<RrKey, RecordSet>) -> bool {
-    if !is_soa(all.records.first()) || !is_soa(all.records.last()) {
-        return false;
-    }
+/// Whether records begin and end with an SOA.
+fn is_between_soas(records: &[Record]) -> bool {
+    is_soa(records.first()) && is_soa(records.last())
+}
+
+/// Whether records are, between two SOAs, all records of the sets in their order.
+fn is_whole(records: &[Record], sets: &BTreeMap<RrKey, RecordSet>) -> bool {
     let mut place = 1;
     for set in sets.values() {
         for record in set.as_slice() {
             if is_soa(Some(record)) {
                 continue;
             }
-            if all.records.get(place) != Some(record) {
+            if records.get(place) != Some(record) {
                 return false;
             }
             place = usize::saturating_add(place, 1);
         }
     }
-    usize::saturating_add(place, 1) == all.records.len()
+    is_between_soas(records) && usize::saturating_add(place, 1) == records.len()
+}
+
+/// What a transfer comes to.
+#[derive(Clone, Copy, Drop)]
+struct Summary {
+    /// How many messages there are, and how many records.
+    messages: usize,
+    records: usize,
+    /// The code of the last message, and whether it has AA.
+    last: (u16, bool),
+    /// Whether each message was sent as it has to be, and an SOA begins and ends the records.
+    is_right: bool,
+    /// Whether the records are all of the zone.
+    is_whole: bool,
+}
+
+/// What the transfer of a zone comes to.
+fn transfer_summary(
+    alloc: Global,
+    origin: &Name,
+    sets: &BTreeMap<RrKey, RecordSet>,
+    query: &Message,
+    most: usize,
+) -> Result<Summary, Fail> {
+    let all = transferred(alloc, origin, sets, query, most)?;
+    Ok(Summary {
+        messages: all.messages,
+        records: all.records.len(),
+        last: all.last,
+        is_right: all.is_right && is_between_soas(&all.records),
+        is_whole: is_whole(&all.records, sets),
+    })
+}
+
+/// The same of the zone of a text, and of a query's bytes.
+fn summary_of(alloc: Global, zone: &str, query: &[u8], most: usize) -> Result<Summary, Fail> {
+    let (origin, sets) = parsed(alloc, zone)?;
+    let query = Message::from_vec(alloc, query)?;
+    transfer_summary(alloc, &origin, &sets, &query, most)
 }
 
 #[test]
 fn a_small_zone_is_one_message(rt: HostRuntime) -> Result<(), Fail> {
-    let (origin, sets) = zone(rt.alloc())?;
-    let all = transferred(rt.alloc(), &origin, &sets, QUERY, 3)?;
-    assert_eq!(rt; all.messages, 1);
-    assert!(rt; all.is_right);
-    assert!(rt; is_soa(all.records.first()));
-    assert!(rt; is_soa(all.records.last()));
+    let summary = summary_of(rt.alloc(), ZONE, QUERY, 3)?;
+    assert_eq!(rt; summary.messages, 1);
+    assert!(rt; summary.is_right);
     Ok(())
 }
 
@@ -172,14 +240,22 @@ fn wide_text(alloc: Global, origin: &str, count: u32) -> Result<String, Fail> {
     Ok(text)
 }
 
+/// How many messages the transfer of such a zone takes, if it is right and whole.
+fn messages_of(
+    alloc: Global,
+    origin: &str,
+    count: u32,
+    query: &[u8],
+) -> Result<Option<usize>, Fail> {
+    let text = wide_text(alloc, origin, count)?;
+    let summary = summary_of(alloc, &text, query, 20)?;
+    Ok((summary.is_right && summary.is_whole).then_some(summary.messages))
+}
+
 #[test]
 fn a_large_set_goes_over_messages(rt: HostRuntime) -> Result<(), Fail> {
-    let text = wide_text(rt.alloc(), "example.", 4000)?;
-    let (origin, sets) = parsed(rt.alloc(), &text)?;
-    let all = transferred(rt.alloc(), &origin, &sets, QUERY, 20)?;
-    assert_eq!(rt; all.messages, 4);
-    assert!(rt; all.is_right);
-    assert!(rt; is_whole(&all, &sets));
+    let messages = messages_of(rt.alloc(), "example.", 4000, QUERY)?;
+    assert_eq!(rt; messages, Some(4));
     Ok(())
 }
 
@@ -187,52 +263,31 @@ fn a_large_set_goes_over_messages(rt: HostRuntime) -> Result<(), Fail> {
 /// the set.
 #[test]
 fn long_names_go_over_messages(rt: HostRuntime) -> Result<(), Fail> {
-    let text = wide_text(rt.alloc(), LONG_ORIGIN, 1200)?;
-    let (origin, sets) = parsed(rt.alloc(), &text)?;
-    let all = transferred(rt.alloc(), &origin, &sets, LONG_QUERY, 20)?;
-    assert_eq!(rt; all.messages, 3);
-    assert!(rt; all.is_right);
-    assert!(rt; is_whole(&all, &sets));
+    let messages = messages_of(rt.alloc(), LONG_ORIGIN, 1200, LONG_QUERY)?;
+    assert_eq!(rt; messages, Some(3));
     Ok(())
 }
 
 /// 65,387 bytes of records, which leave no room for the 157 of the last SOA.
 #[test]
 fn the_last_soa_goes_alone(rt: HostRuntime) -> Result<(), Fail> {
-    let text = wide_text(rt.alloc(), LONG_ORIGIN, 540)?;
-    let (origin, sets) = parsed(rt.alloc(), &text)?;
-    let all = transferred(rt.alloc(), &origin, &sets, LONG_QUERY, 3)?;
-    assert_eq!(rt; all.messages, 2);
-    assert!(rt; all.is_right);
-    assert!(rt; is_whole(&all, &sets));
+    let messages = messages_of(rt.alloc(), LONG_ORIGIN, 540, LONG_QUERY)?;
+    assert_eq!(rt; messages, Some(2));
     Ok(())
 }
 
 /// The code of the one message that a query is answered with, if it is answered by one without records.
-fn code_of(
-    alloc: Global,
-    origin: &Name,
-    sets: &BTreeMap<RrKey, RecordSet>,
-    bytes: &[u8],
-) -> Result<Option<u16>, Fail> {
-    let query = Message::from_vec(alloc, bytes)?;
-    let start = TransferPlace::Start;
-    let step = transfer(alloc, sets, origin, DNSClass::IN, &query, &start)?;
-    let Some((message, next)) = step else {
-        return Ok(None);
-    };
-    let after = transfer(alloc, sets, origin, DNSClass::IN, &query, &next)?;
-    if after.is_some() || !message.answers.is_empty() || message.metadata.authoritative {
-        return Ok(None);
-    }
-    Ok(Some(u16::from(message.metadata.response_code)))
+fn code_of(alloc: Global, zone: &str, query: &[u8]) -> Result<Option<u16>, Fail> {
+    let summary = summary_of(alloc, zone, query, 2)?;
+    let (code, is_authoritative) = summary.last;
+    let is_refusal = summary.messages == 1 && summary.records == 0 && !is_authoritative;
+    Ok(is_refusal.then_some(code))
 }
 
 #[test]
 fn other_queries_are_refused(rt: HostRuntime) -> Result<(), Fail> {
-    let (origin, sets) = zone(rt.alloc())?;
     for row in REFUSED {
-        let code = code_of(rt.alloc(), &origin, &sets, row.0)?;
+        let code = code_of(rt.alloc(), ZONE, row.0)?;
         assert_eq!(rt; code, Some(row.1));
     }
     Ok(())
@@ -240,23 +295,20 @@ fn other_queries_are_refused(rt: HostRuntime) -> Result<(), Fail> {
 
 #[test]
 fn a_zone_without_soa_is_not_transferred(rt: HostRuntime) -> Result<(), Fail> {
-    let (origin, sets) = parsed(rt.alloc(), "$ORIGIN example.\n$TTL 3600\nwww A 192.0.2.1\n")?;
-    let code = code_of(rt.alloc(), &origin, &sets, QUERY)?;
+    let zone = "$ORIGIN example.\n$TTL 3600\nwww A 192.0.2.1\n";
+    let code = code_of(rt.alloc(), zone, QUERY)?;
     assert_eq!(rt; code, Some(2));
     Ok(())
 }
 
-#[test]
-fn records_without_data_are_not_transferred(rt: HostRuntime) -> Result<(), Fail> {
-    let (origin, mut sets) = zone(rt.alloc())?;
-    let all = transferred(rt.alloc(), &origin, &sets, QUERY, 3)?;
-    for (key, set) in &mut sets {
+/// Adds a record without data to each set of addresses.
+fn add_empty(sets: &mut BTreeMap<RrKey, RecordSet>) -> Result<(), Fail> {
+    for (key, set) in sets {
         if key.record_type != RecordType::A {
             continue;
         }
-        let owner = key.name.as_name().clone()?;
         let empty = Record {
-            name: owner,
+            name: key.name.as_name().clone()?,
             dns_class: DNSClass::IN,
             ttl: 0,
             rdata: RData::Update0(key.record_type),
@@ -264,8 +316,21 @@ fn records_without_data_are_not_transferred(rt: HostRuntime) -> Result<(), Fail>
         };
         set.renew(empty)?;
     }
-    let after = transferred(rt.alloc(), &origin, &sets, QUERY, 3)?;
-    assert!(rt; after.is_right);
-    assert_eq!(rt; after.records.len(), all.records.len());
+    Ok(())
+}
+
+/// Whether the transfer of the zone has as many records where each set of addresses has one without data too.
+fn leaves_empty_out(alloc: Global) -> Result<bool, Fail> {
+    let (origin, mut sets) = parsed(alloc, ZONE)?;
+    let query = Message::from_vec(alloc, QUERY)?;
+    let before = transfer_summary(alloc, &origin, &sets, &query, 3)?;
+    add_empty(&mut sets)?;
+    let after = transfer_summary(alloc, &origin, &sets, &query, 3)?;
+    Ok(after.is_right && after.records == before.records)
+}
+
+#[test]
+fn records_without_data_are_not_transferred(rt: HostRuntime) -> Result<(), Fail> {
+    assert!(rt; leaves_empty_out(rt.alloc())?);
     Ok(())
 }

@@ -1,4 +1,4 @@
-//! The zone that is asked: each thing that an answer meets.
+//! The zones that are asked.
 
 ghost use Rattle.authority.specs.ZoneRef.{AreUnderKeys};
 ghost use Rattle.std.specs.Prelude.{IfOk};
@@ -10,8 +10,9 @@ use std::collections::BTreeMap;
 use std::test::Fail;
 use txt::Parser;
 
-/// Wildcards, empty non-terminals, aliases, loops of them, cuts above cuts, a cut with DS, glue.
-const ZONE: &str = "$ORIGIN example.
+/// Each thing that an answer meets: wildcards, empty non-terminals, aliases, loops of them, cuts above cuts, a cut with
+/// DS, glue.
+pub(crate) const ZONE: &str = "$ORIGIN example.
 $TTL 3600
 @ 7200 SOA ns1 admin 7 7200 3600 1209600 300
 @ NS ns1
@@ -80,7 +81,7 @@ c12 CNAME www
 ";
 
 /// Sets that 512 bytes don't hold.
-const WIDE: &str = "$ORIGIN example.
+pub(crate) const WIDE: &str = "$ORIGIN example.
 $TTL 3600
 @ SOA ns1 admin 7 7200 3600 1209600 300
 large TXT ( \"aaaaaaaaaaaaaaaaaaaaaaaaaaaaaaaaaaaaaaaaaaaaaaaaaaaaaaaaaaaaaaaaaaaaaaaaaaaaaaaaaaaaa\"
@@ -113,7 +114,7 @@ hhhhhhhhhhhhhhhhhhhhhhhhhhhhhhhhhhhhhhhhhhhhhhhhhhhhhhhhhhhhh-5 AAAA 2001:db8::5
 pub(crate) const LONG_ORIGIN: &str = "a-name-with-memory-of-its-own.example.";
 
 /// What an answer meets, with such names alone.
-const LONG: &str = "$ORIGIN a-name-with-memory-of-its-own.example.
+pub(crate) const LONG: &str = "$ORIGIN a-name-with-memory-of-its-own.example.
 $TTL 3600
 @ 7200 SOA ns1 admin 7 7200 3600 1209600 300
 @ NS ns1
@@ -138,27 +139,6 @@ ns.child A 192.0.2.20
 ns.child AAAA 2001:db8::20
 tochild CNAME www.child
 ";
-
-/// The zone's origin and its sets.
-pub(crate) fn zone(alloc: Global) -> Result<(Name, BTreeMap<RrKey, RecordSet>), Fail>
-    ensures { IfOk result (λ r. AreUnderKeys r.1) }
-{
-    parsed(alloc, ZONE)
-}
-
-/// The same of the zone of wide sets.
-pub(crate) fn wide_zone(alloc: Global) -> Result<(Name, BTreeMap<RrKey, RecordSet>), Fail>
-    ensures { IfOk result (λ r. AreUnderKeys r.1) }
-{
-    parsed(alloc, WIDE)
-}
-
-/// The same of the zone of long names.
-pub(crate) fn long_zone(alloc: Global) -> Result<(Name, BTreeMap<RrKey, RecordSet>), Fail>
-    ensures { IfOk result (λ r. AreUnderKeys r.1) }
-{
-    parsed(alloc, LONG)
-}
 
 /// The origin and the sets of a zone's text.
 pub(crate) fn parsed(alloc: Global, text: &str) -> Result<(Name, BTreeMap<RrKey, RecordSet>), Fail>
