@@ -1,13 +1,14 @@
-/* Asks and listens: prints the query for a name, and what a response to it says, as a resolver wants to know. */
+/* Asks, listens and answers: prints the query for a name, what a response to it says, as a resolver wants to know, and the
+ * response that a server builds, a name and data in wire form, and mnemonics. */
 #include "fuzsbanel.h"
 
 #include <inttypes.h>
 #include <stdio.h>
 #include <string.h>
 
-#define TYPE_A 1
-#define CLASS_IN 1
 #define PAYLOAD 1232
+/* a text, as a pointer and a length */
+#define TEXT(text) (const uint8_t *)(text), strlen(text)
 
 /* NXDomain for `www.example.`, with an SOA whose TTL is 60 and whose MINIMUM is 5 */
 static const uint8_t denied[] = "\0\x09\x81\x03\0\x01\0\0\0\x01\0\0\x03www\x07" "example\0\0\x01\0\x01"
@@ -29,21 +30,53 @@ static void print_response(const uint8_t *message, size_t len)
     printf("\n");
 }
 
+/* Prints the bytes of a message, or why there are none; answers whether there are. */
+static bool print_bytes(const uint8_t *message, int64_t len)
+{
+    if (len < 0)
+        printf("refused %" PRId64, -len);
+    for (int64_t i = 0; i < len; i++)
+        printf("%02x", message[i]);
+    printf("\n");
+    return len >= 0;
+}
+
+/* Prints what a number is called, of a call that wrote so many bytes. */
+static void print_text(const uint8_t *text, int64_t len)
+{
+    printf("%.*s\n", len < 0 ? 0 : (int)len, (const char *)text);
+}
+
 int main(void)
 {
-    static const char name[] = "www.example";
-    uint8_t query[512];
+    uint8_t query[512], reply[512];
     size_t needed;
-    int64_t len = fuzsbanel_build_query(9, (const uint8_t *)name, strlen(name), TYPE_A, CLASS_IN, true, PAYLOAD, query,
-                                        sizeof query, &needed);
-    if (len < 0) {
-        printf("refused %" PRId64 "\n", -len);
+    int64_t type = fuzsbanel_type_number(TEXT("a")), class_ = fuzsbanel_class_number(TEXT("IN"));
+    int64_t code = fuzsbanel_code_number(TEXT("NXDOMAIN"));
+    if (fuzsbanel_version() != FUZSBANEL_VERSION || type < 0 || class_ < 0 || code < 0)
         return 1;
-    }
-    for (int64_t i = 0; i < len; i++)
-        printf("%02x", query[i]);
-    printf("\n");
+    int64_t len = fuzsbanel_build_query(9, TEXT("www.example"), (uint16_t)type, (uint16_t)class_, true, PAYLOAD, query,
+                                        sizeof query, &needed);
+    if (!print_bytes(query, len))
+        return 1;
     print_response(query, (size_t)len);
     print_response(denied, sizeof denied - 1);
+    int64_t reply_len =
+        fuzsbanel_build_response(query, (size_t)len, (uint16_t)code, true, false, TEXT(""),
+                                 TEXT("example 60 SOA ns.example hostmaster.example 1 2 3 4 5"), TEXT(""), PAYLOAD, false,
+                                 reply, sizeof reply, &needed);
+    if (!print_bytes(reply, reply_len))
+        return 1;
+    print_response(reply, (size_t)reply_len);
+    len = fuzsbanel_name_wire(TEXT("www.example"), query, sizeof query, &needed);
+    if (!print_bytes(query, len))
+        return 1;
+    len = fuzsbanel_data_wire((uint16_t)type, TEXT("192.0.2.1"), query, sizeof query, &needed);
+    if (!print_bytes(query, len))
+        return 1;
+    print_text(reply, fuzsbanel_wire_text((uint16_t)type, query, (size_t)len, reply, sizeof reply, &needed));
+    print_text(reply, fuzsbanel_type_text((uint16_t)type, reply, sizeof reply, &needed));
+    print_text(reply, fuzsbanel_class_text((uint16_t)class_, reply, sizeof reply, &needed));
+    print_text(reply, fuzsbanel_code_text((uint16_t)code, reply, sizeof reply, &needed));
     return 0;
 }

@@ -1,4 +1,4 @@
-//! Queries, and what a response says (RFC 1035, 4.1; RFC 2308, 5).
+//! Queries, responses to them, and what a response says (RFC 1035, 4.1; RFC 2308, 5).
 
 use crate::calls::{self, filled};
 use crate::error::Error;
@@ -66,6 +66,57 @@ pub fn build_query(
                 class,
                 recursion,
                 payload,
+                out,
+                cap,
+                needed,
+            )
+        }
+    })
+}
+
+/// What a response says, each field none unless it is set: the code, AA and RA, and the zone texts of its sections, whose
+/// relative names end in the root.
+#[derive(Clone, Copy, Debug, Default, PartialEq, Eq)]
+pub struct Reply<'a> {
+    /// The response code.
+    pub code: u16,
+    /// Whether the server is an authority for the name (AA).
+    pub authoritative: bool,
+    /// Whether the server asks others (RA).
+    pub recursion_available: bool,
+    /// The answers.
+    pub answers: &'a str,
+    /// The authorities.
+    pub authorities: &'a str,
+    /// The additional records.
+    pub additionals: &'a str,
+}
+
+/// The response to a query. In each section records of type CNAME stand first, and all in the order of owners and types.
+/// `most` is how many bytes a datagram may have, where the query's EDNS has an own say too; of `None` a stream carries it.
+///
+/// # Errors
+///
+/// The query's first fault, and [`Error::NotAQuery`] for a response; the first fault of a zone text; [`Error::NotOnWire`] for
+/// a code that has no bits, or a record that no section has; [`Error::Questions`].
+pub fn build_response(query: &[u8], reply: &Reply, most: Option<u16>) -> Result<Vec<u8>, Error> {
+    filled(512, |out, cap, needed| {
+        // SAFETY: `filled` hands in a buffer of its own, and the bytes and texts are borrowed for the call.
+        unsafe {
+            calls::fuzsbanel_build_response(
+                query.as_ptr(),
+                query.len(),
+                reply.code,
+                reply.authoritative,
+                reply.recursion_available,
+                reply.answers.as_ptr(),
+                reply.answers.len(),
+                reply.authorities.as_ptr(),
+                reply.authorities.len(),
+                reply.additionals.as_ptr(),
+                reply.additionals.len(),
+                most.unwrap_or(u16::MAX),
+                most.is_none(),
                 out,
                 cap,
                 needed,

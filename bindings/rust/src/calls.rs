@@ -76,6 +76,31 @@ extern "C" {
         cap: usize,
         needed: *mut usize,
     ) -> i64;
+    pub fn fuzsbanel_build_response(
+        query: *const u8,
+        query_len: usize,
+        code: u16,
+        authoritative: bool,
+        recursion_available: bool,
+        answers: *const u8,
+        answers_len: usize,
+        authorities: *const u8,
+        authorities_len: usize,
+        additionals: *const u8,
+        additionals_len: usize,
+        most: u16,
+        by_stream: bool,
+        out: *mut u8,
+        cap: usize,
+        needed: *mut usize,
+    ) -> i64;
+    pub fn fuzsbanel_version() -> u32;
+    pub fn fuzsbanel_type_number(text: *const u8, len: usize) -> i64;
+    pub fn fuzsbanel_type_text(number: u16, out: *mut u8, cap: usize, needed: *mut usize) -> i64;
+    pub fn fuzsbanel_class_number(text: *const u8, len: usize) -> i64;
+    pub fn fuzsbanel_class_text(number: u16, out: *mut u8, cap: usize, needed: *mut usize) -> i64;
+    pub fn fuzsbanel_code_number(text: *const u8, len: usize) -> i64;
+    pub fn fuzsbanel_code_text(number: u16, out: *mut u8, cap: usize, needed: *mut usize) -> i64;
     pub fn fuzsbanel_query(
         message: *const u8,
         len: usize,
@@ -106,6 +131,29 @@ extern "C" {
         message: *const u8,
         len: usize,
         place: usize,
+        out: *mut u8,
+        cap: usize,
+        needed: *mut usize,
+    ) -> i64;
+    pub fn fuzsbanel_name_wire(
+        name: *const u8,
+        name_len: usize,
+        out: *mut u8,
+        cap: usize,
+        needed: *mut usize,
+    ) -> i64;
+    pub fn fuzsbanel_data_wire(
+        record_type: u16,
+        text: *const u8,
+        text_len: usize,
+        out: *mut u8,
+        cap: usize,
+        needed: *mut usize,
+    ) -> i64;
+    pub fn fuzsbanel_wire_text(
+        record_type: u16,
+        octets: *const u8,
+        len: usize,
         out: *mut u8,
         cap: usize,
         needed: *mut usize,

@@ -77,6 +77,8 @@ errors! {
     34 Closed "a zone handle that isn't open",
     35 NoSoa "a zone that hasn't exactly one record as its SOA",
     36 NoPlace "a place of a transfer that no call left",
+    37 NoMnemonic "a text that names no class, or no response code",
+    38 NotAQuery "a response, where a query is asked for",
 }
 
 impl std::error::Error for Error {}

@@ -17,12 +17,17 @@ mod ask;
 mod calls;
 mod error;
 mod held;
+mod mnemonic;
 mod update;
 mod walk;
+mod wire_form;
 
-pub use ask::{build_query, response, Response};
+pub use ask::{build_query, build_response, response, Reply, Response};
 pub use error::Error;
 pub use held::{Transfer, Zone};
+pub use mnemonic::{
+    class_number, class_text, code_number, code_text, type_number, type_text, version,
+};
 pub use update::{
     append, compare_and_swap, create, delete_all, delete_by_rdata, delete_rrset, zone_transfer,
 };
@@ -30,6 +35,7 @@ pub use walk::{
     data_text, header, name, options, queries, query, record, records, walk, EdnsOption, Header,
     Options, Query, Record, Section, Walk,
 };
+pub use wire_form::{data_wire, name_wire, wire_text};
 
 use calls::filled;
 

@@ -414,6 +414,49 @@ fn responses_say_whether_they_answer() {
 }
 
 #[test]
+fn responses_are_built() {
+    let query = fuzsbanel::build_query(9, "www.example", 1, 1, true, None).unwrap();
+    let reply = fuzsbanel::Reply {
+        recursion_available: true,
+        answers: "www.example 60 A 192.0.2.1",
+        ..Default::default()
+    };
+    let response = fuzsbanel::build_response(&query, &reply, None).unwrap();
+    let wanted = b"\0\x09\x81\x80\0\x01\0\x01\0\0\0\0\x03www\x07example\0\0\x01\0\x01\
+        \xc0\x0c\0\x01\0\x01\0\0\0\x3c\0\x04\xc0\0\x02\x01";
+    assert_eq!(response, wanted);
+    let again = fuzsbanel::build_response(&response, &reply, Some(512));
+    assert_eq!(again, Err(Error::NotAQuery));
+    let none = fuzsbanel::Reply { code: 16, ..Default::default() };
+    assert_eq!(fuzsbanel::build_response(&query, &none, None), Err(Error::NotOnWire));
+}
+
+#[test]
+fn names_and_data_have_wire_forms() {
+    let name = fuzsbanel::name_wire("www.example").unwrap();
+    assert_eq!(name, b"\x03www\x07example\0");
+    assert_eq!(fuzsbanel::name_wire(""), Err(Error::NoOrigin));
+    let data = fuzsbanel::data_wire(15, "10 mail.example").unwrap();
+    assert_eq!(data, b"\0\x0a\x04mail\x07example\0");
+    assert_eq!(fuzsbanel::wire_text(15, &data).as_deref(), Ok("10 mail.example."));
+    assert_eq!(fuzsbanel::data_wire(1, "192.0.2.300"), Err(Error::BadText));
+    assert_eq!(fuzsbanel::wire_text(1, b"\xc0\0\x02"), Err(Error::BadData));
+}
+
+#[test]
+fn numbers_have_mnemonics() {
+    assert_eq!(fuzsbanel::version(), (0, 1, 0));
+    assert_eq!(fuzsbanel::type_number("aaaa"), Ok(28));
+    assert_eq!(fuzsbanel::type_text(257).as_deref(), Ok("TYPE257"));
+    assert_eq!(fuzsbanel::type_number("quad"), Err(Error::UnknownType));
+    assert_eq!(fuzsbanel::class_number("*"), Ok(255));
+    assert_eq!(fuzsbanel::class_text(1).as_deref(), Ok("IN"));
+    assert_eq!(fuzsbanel::class_number("internet"), Err(Error::NoMnemonic));
+    assert_eq!(fuzsbanel::code_number("NXDOMAIN"), Ok(3));
+    assert_eq!(fuzsbanel::code_text(11).as_deref(), Ok("11"));
+}
+
+#[test]
 fn refusals_have_their_numbers() {
     assert_eq!(Error::Memory.number(), 3);
     assert_eq!(Error::Class.number(), 25);

@@ -1,5 +1,5 @@
 -- The text that is answered of an update.
-use Rattle.std.proofs.Common.{Bool, Err, List, Ok, ap, false, inl, inr, refl, sym, true, ℕ, ◌≡◌, ◌⊎◌, ◌∙◌}
+use Rattle.std.proofs.Common.{Bool, Err, List, Ok, ap, false, refl, sym, true, ℕ, ◌≡◌, ◌⊎◌, ◌∙◌}
 use Rattle.std.specs.BTreeMap as tree
 use Rattle.std.specs.BTreeMap.{BTreeMap}
 use Rattle.std.specs.List.{list_any}

@@ -1,5 +1,5 @@
 -- What is answered of a zone that a caller holds.
-use Rattle.std.proofs.Common.{◌≡◌, ◌∙◌, rules, sym, Result, Ok, Err}
+use Rattle.std.proofs.Common.{◌∙◌, rules, sym, Result, Ok, Err}
 use Rattle.std.proofs.lemmas.Map.Entries.{entries_from_clone}
 use Rattle.std.specs.BTreeMap.{BTreeMap, IsClone, IsUnchanged}
 use Rattle.std.specs.Prelude.{IfOk, OnErr}

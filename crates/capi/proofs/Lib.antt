@@ -6,6 +6,8 @@ mod HandleLemmas
 mod HandleValues
 mod KeptLemmas
 mod MessageLemmas
+mod MnemonicLemmas
+mod ReplyLemmas
 mod ResponseLemmas
 mod SentLemmas
 mod ServedLemmas

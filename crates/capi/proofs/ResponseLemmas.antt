@@ -42,5 +42,6 @@ pub response_refused : (bytes : List ℕ) (f : ProtoError) → IsRefusedResponse
     → (proto_number f ≡ 3) ⊎ (response_of bytes ≡ Err (proto_number f))
 response_refused bytes refusals.NotAResponse (m, e, stands, is) = inr (query_again bytes m e stands is)
 response_refused bytes (refusals.Decode fault) fails =
-    told_as fault (message_at bytes 0) (response_of bytes) (λ is. ap (λ found. read found >>= λ n. responding n) is) fails
+    told_as fault (message_at bytes 0) (response_of bytes)
+    (λ is. ap (λ found. read found >>= λ n. responding n) is) fails
 response_refused bytes f never = absurd never

@@ -1,7 +1,7 @@
 -- What applying an update to zone text is asked for.
 use Rattle.std.specs.FinMap as fin
 use Rattle.std.specs.List.{list_any}
-use Rattle.std.specs.Prelude.{Bool, Err, List, Ok, Some, false, if◌then◌else◌, length, nat_le, not, true, ℕ, ◌&&◌}
+use Rattle.std.specs.Prelude.{Bool, Err, List, Ok, false, if◌then◌else◌, length, nat_le, not, true, ℕ, ◌&&◌}
 use Rattle.base.specs.names.Labels.{NameValue}
 use Rattle.base.specs.declared.record_type.RecordType.{RecordType}
 use Rattle.base.specs.declared.record_type.RecordType.TheVariants as types

@@ -4,12 +4,15 @@ pub mod Header
 pub mod Held
 pub mod KeptPlace
 pub mod Message
+pub mod Mnemonic
 pub mod Query
 pub mod Refusals
+pub mod Reply
 pub mod Response
 pub mod Update
 pub mod Walk
 pub mod WalkWhole
+pub mod WireForm
 pub mod ZoneCheck
 pub mod ZoneHandle
 pub mod ZoneText

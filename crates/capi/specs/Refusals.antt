@@ -52,3 +52,11 @@ no_soa = 35
 -- the place of a transfer is none that a call left
 abbrev pub no_place : ℕ
 no_place = 36
+
+-- a text names no class, or no response code
+abbrev pub no_mnemonic : ℕ
+no_mnemonic = 37
+
+-- a response, where a query is asked for
+abbrev pub not_a_query : ℕ
+not_a_query = 38

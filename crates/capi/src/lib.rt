@@ -9,13 +9,16 @@ mod applied;
 mod fits;
 mod header;
 mod message;
+mod mnemonic;
 mod query;
 mod refusal;
+mod reply;
 mod response;
 #[cfg(test)]
 mod tests;
 mod update;
 mod walk;
+mod wire_form;
 mod zone;
 mod zone_check;
 mod zone_handle;

@@ -56,6 +56,12 @@ impl Refusal {
 
     /// The place of a transfer is none that a call left.
     pub const NO_PLACE: Refusal = Refusal { number: 36 };
+
+    /// The text names no class, or no response code.
+    pub const NO_MNEMONIC: Refusal = Refusal { number: 37 };
+
+    /// The message is a response, where a query is asked for.
+    pub const NOT_A_QUERY: Refusal = Refusal { number: 38 };
 }
 
 impl From<AllocError> for Refusal {

@@ -5,8 +5,11 @@ mod generic;
 mod held;
 mod long_names;
 mod long_zones;
+mod mnemonics;
+mod replies;
 mod transferred;
 mod updates;
+mod wire_forms;
 mod zone_check;
 
 use crate::header::{HeaderNumbers, fuzsbanel_header};

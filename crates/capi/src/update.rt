@@ -9,7 +9,7 @@ ghost use Rattle.capi.specs.Update.{IsSent, IsUpdateAnswered, transfer_asked};
 ghost use Rattle.capi.specs.declared.update.built.Change.TheVariants as changes;
 
 mod built;
-mod sets;
+pub mod sets;
 
 use crate::answer::give;
 use crate::update::built::{Change, transfer, update};

@@ -220,7 +220,7 @@ fn raise_serial_of(alloc: Global, zone: &mut HeldZone) -> i64
 }
 
 /// What carries an answer.
-fn carrier(most: u16, by_stream: bool) -> Carrier
+pub fn carrier(most: u16, by_stream: bool) -> Carrier
     ensures { result ≡ carrier most by_stream }
 {
     if by_stream {

@@ -32,7 +32,7 @@ pub fn set_in(alloc: Global, origin: &Name, text: &[u8]) -> Result<RecordSet, Re
 }
 
 /// The one set of the class IN that zone text has, if its owner lies in the zone.
-fn one_set(alloc: Global, origin: &Name, text: &[u8]) -> Result<RecordSet, Refusal>
+pub fn one_set(alloc: Global, origin: &Name, text: &[u8]) -> Result<RecordSet, Refusal>
     ensures made { Makes (λ set. set) (one_set origin.now text.now) result }
     ensures within { IfOk result (λ set. is_zone_of origin.now set.name ≡ true) }
     ensures sound { IfOk result (λ set. IsSound set) }

@@ -9,7 +9,8 @@ use Rattle.capi.proofs.query.query_bytes.Goals as goal
 
 pub returns : goal.returns
 returns c =
-    ap (λ (asked : Asked NameValue). asked >>= λ name. written (message_answer MAX_MESSAGE (query_of c.args.question name)))
+    ap (λ (asked : Asked NameValue). asked >>= λ name. written
+    (message_answer MAX_MESSAGE (query_of c.args.question name)))
     c.in_ok-name.ensures
     ∙ ap (λ (m : MessageValue). written (message_answer MAX_MESSAGE m)) (sym c.in_ok-message.ensures)
     ∙ ap written c.in_ok-to_vec.ensures.answer

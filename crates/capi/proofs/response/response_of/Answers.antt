@@ -11,7 +11,8 @@ returns-in_err-from_buffer c =
     c.from_residual-in_err-from_buffer.ensures.1 in
     let f = c.in_err-from_buffer.field-0.0 in
     rw (p.1, p.2) (response_refused c.args.bytes.now f
-    (subst (λ (xs : List ℕ). IsRefusedResponse xs f) c.in_ok-from_slice.ensures.items c.in_err-from_buffer.ensures.refused))
+    (subst (λ (xs : List ℕ). IsRefusedResponse xs f) c.in_ok-from_slice.ensures.items
+    c.in_err-from_buffer.ensures.refused))
 
 pub returns : goal.returns
 returns c =

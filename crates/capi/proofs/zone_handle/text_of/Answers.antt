@@ -1,4 +1,4 @@
-use Rattle.std.proofs.Common.{Bool, Err, List, Ok, ap, false, inl, refl, rules, sym, true, ℕ, ◌∙◌, ◌≡◌}
+use Rattle.std.proofs.Common.{Bool, Err, List, Ok, ap, inl, refl, rules, sym, ℕ, ◌∙◌, ◌≡◌}
 use Rattle.std.specs.Prelude.{Vec, if◌then◌else◌}
 use Rattle.std.specs.declared.alloc.Global.{Global}
 use Rattle.parsed_zone.specs.ZoneText.{zone_lines}

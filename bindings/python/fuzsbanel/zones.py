@@ -1,0 +1,148 @@
+"""Zone text, and zones that are held."""
+import ctypes
+import threading
+from types import MappingProxyType
+from typing import Iterator, Mapping, NamedTuple, Optional
+
+from .library import LIBRARY, FaultFields, IncludedFields, TransferPlace, ZoneHandle, asked, filled
+from .refusal import Refusal
+
+
+class Fault(NamedTuple):
+    """A fault of zone text: the number of its refusal, the name of the included text that it stands in, empty of the text
+    itself, the line and the column there, from 1 and in bytes, and what it is, in words."""
+
+    number: int
+    name: str
+    line: int
+    column: int
+    words: str
+
+
+def zone(origin: str, zone_text: str) -> str:
+    """The zone of a text, as zone text that can be read again; an empty origin is none. Types and data may stand in the
+    generic form too (RFC 3597, 5)."""
+    return filled(2 * len(zone_text), "zone", origin, zone_text).decode()
+
+
+def zone_check(origin: str, zone_text: str, included: Mapping[str, str] = MappingProxyType({})) -> Optional[Fault]:
+    """The first fault of a zone's text, if it has one; `included` are the texts that it may include, by their names.
+
+    >>> zone_check("example.", "$INCLUDE more\\n", {"more": "www 300 A 192.0.2.1"}) is None
+    True
+    >>> zone_check("example.", "$INCLUDE more\\n", {"more": "\\nwww 300 A 192.0.2"})
+    Fault(number=23, name='more', line=2, column=9, words='invalid data for type A')
+    >>> zone_check("..", "")
+    Traceback (most recent call last):
+    ...
+    fuzsbanel.Refusal: 23: items that are no data, name or TTL
+    """
+    pieces = [(name_.encode(), text_.encode()) for name_, text_ in included.items()]
+    lengths = (IncludedFields * len(pieces))(*((len(name_), len(text_)) for name_, text_ in pieces))
+    found, room, held = FaultFields(), 256, b"".join(name_ + text_ for name_, text_ in pieces)
+    while True:
+        name_, words = ctypes.create_string_buffer(room + 1), ctypes.create_string_buffer(room + 1)
+        try:
+            asked("zone_check", origin, zone_text, lengths, len(pieces), held, name_, room, words, room, ctypes.byref(found))
+            return None
+        except Refusal as refusal:
+            if not found.line:
+                raise
+            number_ = refusal.number
+        if max(found.name_len, found.words_len) <= room:
+            told = name_.raw[:found.name_len].decode(), found.line, found.column, words.raw[:found.words_len].decode()
+            return Fault(number_, *told)
+        room = max(found.name_len, found.words_len)
+
+
+def apply(update: bytes, origin: str, zone_text: str) -> str:
+    """What a server makes of an update and the zone of a text: a line with its code, and the zone then."""
+    return filled(2 * len(zone_text), "apply", update, origin, zone_text).decode()
+
+
+class Zone:
+    """A zone that is held: opened at a text, updated where it is, written as text, and closed. Threads may share one; its
+    calls come one after the other.
+
+    >>> www = "www 300 A 192.0.2.2"
+    >>> with Zone("example.", "@ 300 SOA ns hostmaster 1 2 3 4 5") as held:
+    ...     held.update(create(1, "example.", www)), held.update(create(1, "example.", www))
+    ...     print(held.text(), end="")
+    (0, 7)
+    $ORIGIN example.
+    example. 300 IN SOA ns.example. hostmaster.example. 1 2 3 4 5
+    www.example. 300 IN A 192.0.2.2
+    >>> query = bytes.fromhex("00090100000100000000000003777777076578616d706c650000010001")
+    >>> with Zone("example.", "@ 300 SOA ns hostmaster 1 2 3 4 5\\n" + www) as held:
+    ...     print(text(held.answer(query, 512)).splitlines()[4])
+    www.example. 300 IN A 192.0.2.2
+    >>> with Zone("example.", "@ 300 SOA ns hostmaster 4294967295 2 3 4 5\\n" + www) as held:
+    ...     held.raise_serial(), held.raise_serial()
+    ...     transferred = list(held.transfer(zone_transfer(9, "example.")))
+    ...     [[data_text(message, found.name) for found in records(message) if found.section == 1] for message in transferred]
+    (0, 1)
+    [['ns.example. hostmaster.example. 1 2 3 4 5', '192.0.2.2', 'ns.example. hostmaster.example. 1 2 3 4 5']]
+    >>> held.close()
+    >>> held.text()
+    Traceback (most recent call last):
+    ...
+    fuzsbanel.Refusal: 34: a zone handle that isn't open
+    >>> Zone("", www)
+    Traceback (most recent call last):
+    ...
+    fuzsbanel.Refusal: 26: an origin of no bytes, where a zone has to be named
+    """
+
+    def __init__(self, origin: str, zone_text: str) -> None:
+        self._handle, self._lock = ZoneHandle(), threading.Lock()
+        asked("zone_open", origin, zone_text, ctypes.byref(self._handle))
+
+    def update(self, update: bytes) -> int:
+        """Carries out an update message, and answers the server's code: with 0, NoError, the zone is changed (RFC 2136, 3),
+        with any other, and where it refuses, it is as it was. The SOA's serial stays."""
+        with self._lock:
+            return asked("zone_update", ctypes.byref(self._handle), update)
+
+    def answer(self, received: bytes, most: Optional[int] = None) -> bytes:
+        """The bytes that an authoritative server of the zone sends for those that it received; none where it sends nothing.
+        `most` is how many bytes a datagram may have; without it a stream carries them."""
+        with self._lock:
+            limit = 65535 if most is None else most
+            return filled(512, "zone_answer", ctypes.byref(self._handle), received, limit, most is None)
+
+    def raise_serial(self) -> int:
+        """Raises the SOA's serial by one, modulo 2^32, as a server does after an update (RFC 1982, 3.1; RFC 2136, 3.6), and
+        answers the new one. It takes no memory of the library's."""
+        with self._lock:
+            return asked("zone_raise_serial", ctypes.byref(self._handle))
+
+    def transfer(self, query: bytes) -> Iterator[bytes]:
+        """The messages of the zone transfer that a query of type AXFR asks for, one after the other (RFC 5936, 2.2), each for
+        a stream; of another query one with a code alone. The zone has to stay as it is till the last was taken: what comes
+        after a change is that of the changed zone."""
+        query, place = bytes(query), TransferPlace()
+        while True:
+            with self._lock:
+                message = filled(65535, "zone_serve_transfer", ctypes.byref(self._handle), query, ctypes.byref(place))
+            if not message:
+                return
+            yield message
+
+    def text(self) -> str:
+        """The zone as text, which can be opened again with the same origin."""
+        with self._lock:
+            return filled(4096, "zone_text", ctypes.byref(self._handle)).decode()
+
+    def close(self) -> None:
+        """Lets the zone go. What is closed already stays so."""
+        with self._lock:
+            LIBRARY.fuzsbanel_zone_close(ctypes.byref(self._handle))
+
+    def __enter__(self) -> "Zone":
+        return self
+
+    def __exit__(self, *error) -> None:
+        self.close()
+
+    def __del__(self) -> None:
+        self.close()
