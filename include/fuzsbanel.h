@@ -64,13 +64,39 @@ enum fuzsbanel_refusal {
     FUZSBANEL_OUTSIDE = 28,           /* an owner outside the zone */
     FUZSBANEL_TYPE = 29,              /* a type that no update here is of: SOA, query and meta types, SIG, WKS, 0 */
     FUZSBANEL_NOT_SOA = 30,           /* a record that isn't the zone's SOA */
-    FUZSBANEL_NOT_ON_WIRE = 31,       /* a name in data that is relative, which no message can have; an OPT record */
+    FUZSBANEL_NOT_ON_WIRE = 31,       /* what no message can say: a relative name in data, an OPT record, a code without bits */
     FUZSBANEL_TOO_LONG = 32,          /* an update, question or record that no message of 65,535 bytes holds */
     FUZSBANEL_TWO_ANAMES = 33,        /* an update that leaves an owner with two ANAME records, which zone text can't say */
     FUZSBANEL_CLOSED = 34,            /* a zone handle that isn't open */
     FUZSBANEL_NO_SOA = 35,            /* a zone that hasn't exactly one record as its SOA */
-    FUZSBANEL_NO_PLACE = 36           /* a place of a transfer that no call left */
+    FUZSBANEL_NO_PLACE = 36,          /* a place of a transfer that no call left */
+    FUZSBANEL_NO_MNEMONIC = 37,       /* a text that names no class, or no response code */
+    FUZSBANEL_NOT_A_QUERY = 38        /* a response, where a query is asked for */
 };
+
+/* The version that this header declares, and that of the archive, which is to be the same: a thousand for each minor
+ * version, and a million for each major one. */
+#define FUZSBANEL_VERSION 1000
+uint32_t fuzsbanel_version(void);
+
+/* ---- numbers and their mnemonics, in letters of either case
+ *
+ * The `.._number` calls answer the number of a text, and refuse with 24 what isn't UTF-8. The others write the text of any
+ * number, of 15 bytes at most. */
+
+/* Of record types (RFC 1035, 3.2.2 and 3.2.3), also as `TYPE` and the number, as `TYPE257` (RFC 3597, 5), which is what is
+ * written where a type has no mnemonic here. Refuses with 21. */
+int64_t fuzsbanel_type_number(const uint8_t *text, size_t len);
+int64_t fuzsbanel_type_text(uint16_t record_type, uint8_t *out, size_t cap, size_t *needed);
+
+/* Of classes (RFC 1035, 3.2.4 and 3.2.5), `*` for ANY, also as `CLASS` and the number. Refuses with 37. */
+int64_t fuzsbanel_class_number(const uint8_t *text, size_t len);
+int64_t fuzsbanel_class_text(uint16_t class_, uint8_t *out, size_t cap, size_t *needed);
+
+/* Of response codes (RFC 6895, 2.3), as `NXDomain`, also as the number in decimal, which is what is written where a code
+ * has no name. 16 is written BADSIG, and read of BADVERS too. Refuses with 37. */
+int64_t fuzsbanel_code_number(const uint8_t *text, size_t len);
+int64_t fuzsbanel_code_text(uint16_t code, uint8_t *out, size_t cap, size_t *needed);
 
 /* ---- messages (RFC 1035, 4.1) */
 
@@ -129,6 +155,20 @@ int64_t fuzsbanel_response(const uint8_t *message, size_t len, struct fuzsbanel_
  * are taken, and of 512 at least (RFC 6891, 6.2.3). Refuses with 26 for a name of no bytes, 24, and 23 for no name. */
 int64_t fuzsbanel_build_query(uint16_t id, const uint8_t *name, size_t name_len, uint16_t record_type, uint16_t class_,
                               bool recursion, uint16_t payload, uint8_t *out, size_t cap, size_t *needed);
+
+/* Writes the response to the query that `query` begins with, with this response code, AA and RA: it has the query's id,
+ * operation, RD and CD, its questions, and where it has EDNS, EDNS of version 0 and 512 bytes with its DO (RFC 6895, 2; RFC
+ * 6891, 6.1.1; RFC 3225, 3). The records of its sections are those of three zone texts, read as fuzsbanel_zone reads one
+ * under the root, so that `www.example 300 A 192.0.2.1` is of `www.example.`: records of type CNAME stand first, and all in
+ * the order of owners and types. A datagram has at most as many bytes as `most` and the query's EDNS say, and 512 at least;
+ * with `by_stream` there may be 65,535. What has no room is left out as fuzsbanel_cut leaves it out. Refuses as
+ * fuzsbanel_check does, with 38, with 31 for a code above 15 where the query has no EDNS and for any above 4,095, as
+ * fuzsbanel_zone does, and with 2. */
+int64_t fuzsbanel_build_response(const uint8_t *query, size_t query_len, uint16_t code, bool authoritative,
+                                 bool recursion_available, const uint8_t *answers, size_t answers_len,
+                                 const uint8_t *authorities, size_t authorities_len, const uint8_t *additionals,
+                                 size_t additionals_len, uint16_t most, bool by_stream, uint8_t *out, size_t cap,
+                                 size_t *needed);
 
 /* ---- a message walked where it stands: no data is copied, and places count from the first byte of `message`
  *
@@ -212,6 +252,24 @@ int64_t fuzsbanel_name(const uint8_t *message, size_t len, size_t place, uint8_t
 /* Writes the text of the data of the record at `place`, as fuzsbanel_text has it: where its type has a text form, what
  * stands for it in zone text (RFC 1035, 5.1). Refuses with 4 to 8. */
 int64_t fuzsbanel_data_text(const uint8_t *message, size_t len, size_t place, uint8_t *out, size_t cap, size_t *needed);
+
+/* ---- names and data alone, in wire form */
+
+/* Writes the name of a text in wire form: each label after its length, and a zero byte (RFC 1035, 3.1), 255 bytes at most.
+ * The name is taken as absolute. fuzsbanel_name reads it again, at place 0. Refuses with 26 for a name of no bytes, 24, and
+ * 23 for no name. */
+int64_t fuzsbanel_name_wire(const uint8_t *name, size_t name_len, uint8_t *out, size_t cap, size_t *needed);
+
+/* Writes the data of a type that a text is, as `10 mail.example.` of type MX: what stands after the type in zone text,
+ * below. Names in it end in the root, and are written without compression. Refuses with 17 to 24, with 25 or 27 for a text
+ * that goes on with other records, and with 32 for data of more than 65,535 bytes. */
+int64_t fuzsbanel_data_wire(uint16_t record_type, const uint8_t *text, size_t text_len, uint8_t *out, size_t cap,
+                            size_t *needed);
+
+/* Writes the text of such data, as fuzsbanel_data_text does of what stands in a message; it can be read again. A pointer in
+ * a name of it leads to a place of the data itself. Refuses with 8, and with 32 for more than 65,535 bytes. */
+int64_t fuzsbanel_wire_text(uint16_t record_type, const uint8_t *octets, size_t len, uint8_t *out, size_t cap,
+                            size_t *needed);
 
 /* ---- zone text (RFC 1035, 5.1), UTF-8
  *
