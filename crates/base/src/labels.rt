@@ -122,8 +122,28 @@ impl Labels {
         }
     }
 
+    /// The same with its ASCII letters in lower case.
+    ///
+    /// # Errors
+    ///
+    /// If memory runs out; up to 29 bytes take none.
+    pub(crate) fn to_ascii_lowercase(&self, alloc: Global) -> Result<Labels, AllocError>
+        ensures value { IfOk result (λ o. o ≡ lower_labels self.now) }
+        // Up to 29 bytes take no memory, and so are never refused.
+        ensures inline { length self.now.items ≤ INLINE_LABELS → IsTrue (is_ok result) }
+    {
+        let mut labels = match &self.storage {
+            Storage::Inline(inline) => Labels {
+                storage: Storage::Inline(inline.copy()),
+            },
+            Storage::Heap { is_fqdn, bytes } => Labels::from_slice(alloc, bytes, *is_fqdn)?,
+        };
+        labels.make_ascii_lowercase();
+        Ok(labels)
+    }
+
     /// Puts the ASCII letters in lower case.
-    pub(crate) fn make_ascii_lowercase(&mut self)
+    fn make_ascii_lowercase(&mut self)
         ensures { self.new ≡ lower_labels self.old }
     {
         match &mut self.storage {

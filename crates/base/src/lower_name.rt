@@ -97,7 +97,7 @@ impl PartialEq for LowerName {
 
     /// The same flag and the same labels.
     fn eq(&self, other: &LowerName) -> bool {
-        self.name == other.name
+        self.name.eq_case(&other.name)
     }
 }
 

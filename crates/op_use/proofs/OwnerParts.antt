@@ -23,7 +23,7 @@ use Rattle.std.proofs.Common.{ap, refl, subst, sym, ◌∙◌}
 use Rattle.std.proofs.Math.Bool.{and-false, or-true}
 use Rattle.std.proofs.lemmas.Bool.{and_parts, cond_both, false_from_ne_true, or_parts, true≢false}
 use Rattle.std.specs.FinMap as fin
-use Rattle.std.specs.Cmp.{eq_by_cmp_equiv}
+use Rattle.std.specs.Cmp.{both_ways, eq_by_cmp_equiv}
 use Rattle.std.specs.List.{filter, fold, list_any}
 use Rattle.std.specs.Ordering.{eq_by_cmp}
 use Rattle.std.specs.Prelude.{Bool, List, None, [], cond, false, if◌then◌else◌, is_some, length, nat_le}
@@ -78,12 +78,6 @@ one_at p x ks more false e h =
 one_of : (p : RrKey → Bool) (ks : List RrKey) → list_any p ks ≡ true → One p ks
 one_of p [] h = absurd cc
 one_of p (x ∷ ks) h = one_at p x ks (one_of p ks) (p x) refl h
-
-both_ways : (a b : Bool) → (a ≡ true → b ≡ true) → (b ≡ true → a ≡ true) → a ≡ b
-both_ways true true f g = refl
-both_ways true false f g = sym (f refl)
-both_ways false true f g = g refl
-both_ways false false f g = refl
 
 -- two zones have the same under the keys that pass a test
 pub record Agrees (p : RrKey → Bool) (z y : Zone) : Type 0 where

@@ -104,11 +104,11 @@ impl InlineLabels {
         &self.bytes[..usize::from(self.len)]
     }
 
-    /// Puts the ASCII letters in lower case.
+    /// Puts the ASCII letters in lower case, and what stands after the labels too: a fixed number takes less time.
     pub(crate) fn make_ascii_lowercase(&mut self)
         ensures { self.new ≡ lower_labels self.old }
     {
-        self.bytes[..usize::from(self.len)].make_ascii_lowercase();
+        self.bytes.make_ascii_lowercase();
     }
 
     /// Whether the name is absolute.

@@ -10,7 +10,6 @@ ghost use Rattle.base.specs.names.Labels.{NameValue, AreLabels, IsLabelRun, labe
 ghost use Rattle.base.specs.names.NameOrder.{canonical_cmp, is_zone_of, folded, folded_labels, lowered, labels_cmp, same_labels, same_name, name_cmp, name_fed};
 ghost use Rattle.base.specs.names.NameOrderLaws.{same_by-equiv, same_by-tie, cmp_by-total, cmp_by-partial, fed_by-same};
 
-use crate::labels::Labels;
 use crate::limits::MAX_LABELS;
 use crate::name::{Name, first_label};
 use std::alloc::{AllocError, Global};
@@ -55,9 +54,9 @@ impl Name {
         ensures inline { length (wire_of self.now.labels) ≤ INLINE_LABELS
             → IsTrue (is_ok result) }
     {
-        let mut labels = Labels::from_slice(alloc, self.labels.as_slice(), self.labels.is_fqdn())?;
-        labels.make_ascii_lowercase();
-        Ok(Name { labels })
+        Ok(Name {
+            labels: self.labels.to_ascii_lowercase(alloc)?,
+        })
     }
 }
 
