@@ -135,7 +135,8 @@ fn same_in_any_case(left: &[u8], right: &[u8]) -> bool
     ensures { result
         ≡ same_labels (folded_labels (labels_of left.now)) (folded_labels (labels_of right.now)) }
 {
-    left.eq_ignore_ascii_case(right)
+    // Mostly they have the same spelling, and bytes are compared many at once.
+    *left == *right || left.eq_ignore_ascii_case(right)
 }
 
 /// Puts bytes in lower case at the front of `room`.

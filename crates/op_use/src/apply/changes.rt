@@ -92,6 +92,9 @@ impl<'a> Zone<'a> {
             (Settles (each entries.now) self.now.sets now.entry outcome.old outcome.new) }
     {
         for entry in entries {
+            if now.is_empty() {
+                return Ok(());
+            }
             let key = record_key(entry)?;
             let Some(set) = now.remove(&key) else {
                 continue;
