@@ -8,7 +8,7 @@ use Rattle.op_use.proofs.KeySets.{Sets, each_key, key_in, put_beside, put_here}
 use Rattle.op_use.proofs.ZoneSteps.{tied}
 use Rattle.op_use.specs.Applying.{HasSameSets, IsZoneMap, records_in}
 use Rattle.op_use.specs.MapUpdates.{LacksKeys, has_key, names_set}
-use Rattle.op_use.specs.Outcome.{Change, FitsThere, HasNothing, IsSettled, SettlesAt, added_at, change_at, changed}
+use Rattle.op_use.specs.Outcome.{Change, FitsThere, HasNothing, IsSettled, Settles, SettlesAt, added_at, change_at, changed}
 use Rattle.op_use.specs.Outcome.{found}
 use Rattle.op_use.specs.Outcome.{no_change}
 use Rattle.op_use.specs.Server.{is_under}
@@ -23,7 +23,7 @@ use Rattle.std.proofs.lemmas.List.Folds.{list_any-append}
 use Rattle.std.specs.BTreeMap as tree
 use Rattle.std.specs.BTreeMap.{BTreeMap, is_at}
 use Rattle.std.specs.Cmp.{eq_by_cmp_equiv}
-use Rattle.std.specs.Map.{keys_of}
+use Rattle.std.specs.Map.{keys_of, lookup}
 use Rattle.std.specs.Ordering.{eq_by_cmp}
 use Rattle.std.specs.Prelude.{Bool, List, None, Option, Some, [], cond, false, is_some, true, ◌&&◌, ◌++◌}
 use Rattle.std.specs.Prelude.{◌||◌, ◌∷◌, ◌≡◌, ◌≢◌}
@@ -191,6 +191,26 @@ module _ (rs : List (Record RData)) (r : Record RData) (all : List (Record RData
           replaced = found (r i).items q;
           is_gone = has_key q (g i).items;
         })
+
+-- where none is left, a set that no update has named isn't there
+all_at : (was left : Option SetValue) (old new : Change) (a b : Bool) (now : Option SetValue) → left ≡ None
+    → SettlingAt a was now left old new → SettlesAt ((a || b) && is_some now) was now old new
+all_at was left old new true b now none at = at.1
+all_at was left old new false true None none at = at.1
+all_at was left old new false false None none at = at.1
+all_at was left old new false b (Some s) none at = absurd (some (sym none ∙ at.0)) where
+  some : None ≡ Some s → ⊥
+  some e = absurd cc
+
+-- and so all are settled
+pub settled_all : (rs us : List (Record RData)) (was now left : Map) (old mid : Outcome) → left.entries ≡ []
+    → IsSettling rs was now left old mid → Settles (rs ++ us) was now old mid
+settled_all rs us was now left old mid none h q =
+    subst (λ b. SettlesAt (b && is_some (tree.get key_cmp now q)) (tree.get key_cmp was q) (tree.get key_cmp now q)
+    (change_at old q) (change_at mid q))
+    (sym (list_any-append (λ (x : Record RData). is_under x q) rs us))
+    (all_at (tree.get key_cmp was q) (tree.get key_cmp left q) (change_at old q) (change_at mid q)
+    (names_set rs q) (names_set us q) (tree.get key_cmp now q) (ap (lookup (is_at (key_cmp q))) none) (h q))
 
 -- ---- sets put into the map
 

@@ -1,14 +1,15 @@
 use Rattle.base.specs.RrKey.{key_cmp}
 use Rattle.base_data.specs.declared.rdata.RData.{RData}
 use Rattle.op_use.proofs.KeySets.{one_lent}
-use Rattle.op_use.proofs.SettleSteps.{IsSettling, settling_added, settling_none, settling_replaced, settling_same}
+use Rattle.op_use.proofs.SettleSteps.{IsSettling, settled_all, settling_added, settling_none, settling_replaced, settling_same}
 use Rattle.op_use.proofs.apply.zone.Zone.settle.Goals as goal
 use Rattle.op_use.specs.HeldZone.{HeldZone}
-use Rattle.op_use.specs.Outcome.{each}
+use Rattle.op_use.specs.Outcome.{Settles, each}
 use Rattle.rr.specs.declared.record.Record.{Record}
-use Rattle.std.proofs.Common.{List, Some, ap, refl, subst, sym, ◌∙◌}
+use Rattle.std.proofs.Common.{List, Some, ap, drop, refl, subst, sym, take, ◌∙◌}
 use Rattle.std.proofs.lemmas.Bool.{true≢false}
-use Rattle.std.proofs.lemmas.List.{take_all}
+use Rattle.std.proofs.lemmas.List.{map-append, nil_from_length, take-append-drop, take_all}
+use Rattle.std.specs.Borrow.{Bor}
 use Rattle.std.specs.BTreeMap.{get}
 
 pub loop-entry-init : goal.loop-entry-init
@@ -50,6 +51,16 @@ loop-entry-preserved c = settling_replaced _ _ _
     (ap (λ (z : HeldZone). get key_cmp z.sets c.in_ok-key.key) (sym c.self.view_is) ∙ sym c.in-Some-get.ensures.value)
     (λ same. true≢false (sym (c.are_same.ensures.1 (c.as_slice.ensures ∙ same ∙ sym c.as_slice-in-loop-entry.ensures))
     ∙ c.if-are_same.false)) refl c.in_ok-push-2.ensures.items refl
+
+pub returns-then-is_empty : goal.returns-then-is_empty
+returns-then-is_empty c =
+    let es = c.args.entries.now in
+    let i = c.loop-entry.entry-index in
+    let none = nil_from_length c.loop-entry.now.entries (c.is_empty.ensures.0 c.if-is_empty.true) in
+    subst (λ (rs : List (Record RData)). Settles rs c.args.self.now.sets c.args.now c.args.outcome.now c.loop-entry.outcome)
+    (sym (map-append (λ (r : Bor (Record RData)). r.now) (take i es) (drop i es)) ∙ ap each (take-append-drop i es))
+    (settled_all (each (take i es)) (each (drop i es)) c.args.self.now.sets c.args.now c.loop-entry.now
+    c.args.outcome.now c.loop-entry.outcome none c.loop-entry.invariant)
 
 pub returns : goal.returns
 returns c = λ q. (subst (λ (rs : List (Record RData)).
