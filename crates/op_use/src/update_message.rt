@@ -8,7 +8,7 @@ ghost use Rattle.op.specs.Parts.{AddsGiven};
 
 mod builders;
 
-pub use crate::apply::apply_update;
+pub use crate::apply::{apply_update, update_in_place};
 use base::ProtoError;
 use base_data::TSIG;
 pub use builders::{

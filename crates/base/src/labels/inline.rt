@@ -104,7 +104,9 @@ impl InlineLabels {
         &self.bytes[..usize::from(self.len)]
     }
 
-    /// Puts the ASCII letters in lower case, and what stands after the labels too: a fixed number takes less time.
+    /// Puts the ASCII letters in lower case, and what stands after the labels too: a fixed number takes less time. It
+    /// isn't copied into its callers, since there the bytes would be taken apart.
+    #[inline(never)]
     pub(crate) fn make_ascii_lowercase(&mut self)
         ensures { self.new ≡ lower_labels self.old }
     {
