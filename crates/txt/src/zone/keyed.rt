@@ -15,7 +15,7 @@ pub(super) struct Keyed {
     /// That of the key's name.
     prefix: u128,
     key: RrKey,
-    entry: Record,
+    entry: Box<Record>,
 }
 
 impl Model for Keyed {
@@ -26,15 +26,15 @@ impl Model for Keyed {
 
     ghost Value = { Key × Entry RData };
 
-    ghost view = { λ k. (k.key, k.entry) };
+    ghost view = { λ k. (k.key, k.entry.value) };
 
     ghost invariant = { λ k. IsPrefix k.prefix k.key.name };
 }
 
 impl Keyed {
     /// These.
-    pub(super) fn new(key: RrKey, entry: Record) -> Keyed
-        ensures { result ≡ (key, entry) }
+    pub(super) fn new(key: RrKey, entry: Box<Record>) -> Keyed
+        ensures { result ≡ (key, entry.value) }
     {
         Keyed {
             prefix: prefix_of(key.name.as_name()),
@@ -48,7 +48,7 @@ impl Keyed {
         ensures { result ≡ self }
     {
         let Keyed { key, entry, .. } = self;
-        (key, entry)
+        (key, Box::into_inner(entry))
     }
 }
 

@@ -64,6 +64,8 @@ impl ZoneSets {
     pub(super) fn add(&mut self, entry: Record) -> Result<(), ParseError>
         ensures { Gives (λ _. self.new) result (sets_with self.old entry) }
     {
+        let alloc = *self.entries.allocator();
+        let entry = Box::new(alloc, entry)?;
         let key = make_room(&mut self.entries, &mut self.soas, &entry)?;
         self.entries.push_reserved(Keyed::new(key, entry));
         Ok(())
@@ -219,7 +221,7 @@ fn take_last(run: &mut Run, key: &RrKey) -> Option<RecordSet>
     ensures none { IfNone result ((run.new ≡ run.old)
         × AllByRecursion (λ e. key_cmp key.now e.0 ≡ Greater) run.old) }
 {
-    if key.cmp(&run.last()?.0).is_ne() {
+    if *key != run.last()?.0 {
         return None;
     }
     let (_, set) = run.pop()?;
