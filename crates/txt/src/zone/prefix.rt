@@ -13,16 +13,19 @@ const BASE: u128 = 64;
 /// What the first digit of a prefix counts: the 20th power of `BASE`.
 const FIRST: u128 = 1 << 120;
 
+/// A name of more bytes has no prefix, which would cost more than it spares: most of its bytes are looked at in vain.
+const MOST: usize = 40;
+
 /// The first 21 digits of a name, from its last label on, as a number: a name whose prefix is less comes first
-/// (RFC 4034, 6.1). It is 0 where it isn't known: the name is relative, or a byte of it has no digit.
+/// (RFC 4034, 6.1). It is 0 where it isn't known: the name is long or relative, or a byte of it has no digit.
 pub(super) fn prefix_of(name: &Name) -> u128
     ensures { IsPrefix result name.now }
 {
-    if !name.is_fqdn() {
+    let mut rest = name.as_wire();
+    if rest.len() > MOST || !name.is_fqdn() {
         return 0;
     }
     let mut prefix = 0;
-    let mut rest = name.as_wire();
     'labels: while let Some((label, tail)) = first_label(rest) {
         let Some(longer) = lead(label, prefix) else {
             return 0;
