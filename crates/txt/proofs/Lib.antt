@@ -3,6 +3,7 @@ pub mod BlockLemmas
 pub mod Cuts
 pub mod KeptSets
 pub mod PlaceLemmas
+pub mod PrefixLemmas
 pub mod SetsInOrder
 pub mod Stack
 pub mod TextsLemmas

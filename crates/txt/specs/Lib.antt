@@ -4,6 +4,7 @@ pub mod Faults
 pub mod Gathered
 pub mod Parser
 pub mod Places
+pub mod Prefix
 pub mod Run
 pub mod Zone
 pub mod ZoneSets

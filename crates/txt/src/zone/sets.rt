@@ -13,12 +13,12 @@ ghost use Rattle.txt.specs.Run.{sets_in};
 ghost use Rattle.txt.specs.ZoneSets.{AreKeyed, sets_with, soa_again};
 ghost use Rattle.rr.specs.Record.{record_key};
 
+use crate::zone::keyed::{Keyed, cmp_keys};
 use crate::zone::run::Run;
 use base::{ParseError, RecordType, RrKey};
 use base_data::RecordData;
 use rr::{Record, RecordSet};
 use std::alloc::{AllocError, Global};
-use std::cmp::Ordering;
 use std::collections::BTreeMap;
 use std::marker::Model;
 
@@ -28,7 +28,7 @@ use std::marker::Model;
 #[derive(Drop)]
 pub struct ZoneSets {
     /// The records with their keys, as they came: to sort them at the end costs less than a look-up for each.
-    entries: Vec<(RrKey, Record)>,
+    entries: Vec<Keyed>,
     /// The keys of the SOA records.
     soas: BTreeMap<RrKey, ()>,
 }
@@ -64,8 +64,10 @@ impl ZoneSets {
     pub(super) fn add(&mut self, entry: Record) -> Result<(), ParseError>
         ensures { Gives (λ _. self.new) result (sets_with self.old entry) }
     {
+        let alloc = *self.entries.allocator();
+        let entry = Box::new(alloc, entry)?;
         let key = make_room(&mut self.entries, &mut self.soas, &entry)?;
-        self.entries.push_reserved((key, entry));
+        self.entries.push_reserved(Keyed::new(key, entry));
         Ok(())
     }
 
@@ -114,7 +116,7 @@ impl ZoneSets {
 ///
 /// `Message` for a second SOA of an owner; `Memory` if memory runs out. The keys are then as they were.
 fn make_room(
-    entries: &mut Vec<(RrKey, Record)>,
+    entries: &mut Vec<Keyed>,
     soas: &mut BTreeMap<RrKey, ()>,
     entry: &Record,
 ) -> Result<RrKey, ParseError>
@@ -160,19 +162,12 @@ fn note(soas: &mut BTreeMap<RrKey, ()>, key: &RrKey) -> Result<(), ParseError>
     Ok(())
 }
 
-/// The order of the keys of two records.
-fn cmp_keys(left: &(RrKey, Record), right: &(RrKey, Record)) -> Ordering
-    ensures { result ≡ key_cmp left.now.0 right.now.0 }
-{
-    left.0.cmp(&right.0)
-}
-
 /// The sets of records in the order of their keys.
 ///
 /// # Errors
 ///
 /// If memory runs out.
-fn gather(entries: Vec<(RrKey, Record)>) -> Result<Run, AllocError>
+fn gather(entries: Vec<Keyed>) -> Result<Run, AllocError>
     requires keyed { HaveOwnKeys entries.items }
     requires ascending { IsAscending entries.items }
     ensures sets { IfOk result (λ run. run ≡ gathered entries.items) }
@@ -182,7 +177,8 @@ fn gather(entries: Vec<(RrKey, Record)>) -> Result<Run, AllocError>
     ensures ordered { IfOk result (λ run. IsStrictlySortedBy key_cmp (keys_of run)) }
 {
     let mut run = Run::new(*entries.allocator());
-    for (key, entry) in entries {
+    for keyed in entries {
+        let (key, entry) = keyed.into_parts();
         add_last(&mut run, key, entry)?;
     }
     Ok(run)
@@ -225,7 +221,7 @@ fn take_last(run: &mut Run, key: &RrKey) -> Option<RecordSet>
     ensures none { IfNone result ((run.new ≡ run.old)
         × AllByRecursion (λ e. key_cmp key.now e.0 ≡ Greater) run.old) }
 {
-    if key.cmp(&run.last()?.0).is_ne() {
+    if *key != run.last()?.0 {
         return None;
     }
     let (_, set) = run.pop()?;

@@ -5,12 +5,12 @@ use Rattle.txt.proofs.Gathering.{FirstFollows}
 use Rattle.txt.proofs.SetsInOrder.{AreInOrder}
 use Rattle.txt.proofs.zone.sets.gather.Given as goal
 
-abbrev pub invariant-loop-key : goal.invariant-loop-key
-invariant-loop-key l = record {
-  sets : with_all l.run l.key-iterator.rest.items ≡ gathered l.fn.entries.items;
+abbrev pub invariant-loop-keyed : goal.invariant-loop-keyed
+invariant-loop-keyed l = record {
+  sets : with_all l.run l.keyed-iterator.rest.items ≡ gathered l.fn.entries.items;
   kept : AreKeyed l.run;
   ordered : AreInOrder l.run;
-  keyed : HaveOwnKeys l.key-iterator.rest.items;
-  ascending : IsAscending l.key-iterator.rest.items;
-  follows : FirstFollows l.run l.key-iterator.rest.items;
+  keyed : HaveOwnKeys l.keyed-iterator.rest.items;
+  ascending : IsAscending l.keyed-iterator.rest.items;
+  follows : FirstFollows l.run l.keyed-iterator.rest.items;
 }

@@ -11,8 +11,11 @@ pub invariant_of-self-2 : goal.invariant_of-self-2
 invariant_of-self-2 c =
     let e : RrKey × Record RData = (record_key c.args.entry, c.args.entry) in
     let pushed : c.push_reserved.new.self.items
-    ≡ c.self.inside.entries.items ++ (record_key c.args.entry, c.args.entry) ∷ [] = search rules in (
+    ≡ c.self.inside.entries.items ++ (record_key c.args.entry, c.args.entry) ∷ [] = search rules in
+    let same : c.deref.result.now ≡ c.args.entry = search rules in (
       subst HaveOwnKeys (sym pushed) (All-push (λ (e : RrKey × Record RData). e.0 ≡ record_key e.1)
           c.self.inside.entries.items e c.self.invariant.0 refl),
-      subst (KnowsSoas c.make_room.new.soas.entries) (sym pushed) c.in_ok-key.ensures.soas,
+      subst (KnowsSoas c.make_room.new.soas.entries) (sym pushed)
+          (subst (λ (r : Record RData). KnowsSoas c.make_room.new.soas.entries
+          (c.self.inside.entries.items ++ (record_key r, r) ∷ [])) same c.in_ok-key.ensures.soas),
     )
