@@ -1,7 +1,10 @@
 //! Which messages a server sends for a zone transfer (RFC 5936, 2.2).
 
-ghost use Rattle.authority.specs.Reply.{framed as the_frame, header_refusal as the_header_refusal, one_question as the_question, only_code as the_code};
-ghost use Rattle.authority.specs.Transfer.{IsFull, IsNextOf, IsTooLarge, IsTransferred, axfr_refusal as the_axfr_refusal, is_end, left_at, one_axfr_refusal as the_one_refusal, questions_at as the_questions, records_from, room_beside as the_room, soa_of as the_soa};
+ghost use Rattle.authority.specs.Reply.{framed as the_frame, header_refusal as the_header_refusal};
+ghost use Rattle.authority.specs.Reply.{one_question as the_question, only_code as the_code};
+ghost use Rattle.authority.specs.Transfer.{IsFull, IsNextOf, IsTooLarge, IsTransferred, is_end, left_at, records_from};
+ghost use Rattle.authority.specs.Transfer.{axfr_refusal as the_axfr_refusal, one_axfr_refusal as the_one_refusal};
+ghost use Rattle.authority.specs.Transfer.{questions_at as the_questions, room_beside as the_room, soa_of as the_soa};
 ghost use Rattle.authority.specs.declared.transferring.TransferPlace.{TransferPlace as Place};
 ghost use Rattle.op.specs.Message.{MessageValue, message_value};
 ghost use Rattle.op_use.specs.Server.{and_then};
