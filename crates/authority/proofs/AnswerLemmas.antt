@@ -1,8 +1,8 @@
 -- The first alias of a set, and where it leads; what is answered of what was found.
 use Rattle.authority.proofs.CutLemmas.{cut_is_end}
 use Rattle.authority.proofs.SetLemmas.{records_there}
-use Rattle.authority.specs.Found.{IsAlias, IsFound, answered}
-use Rattle.authority.specs.Lookup.{Alias, Data, Finding, alias_at, alias_else, alias_in, alias_or}
+use Rattle.authority.specs.Found.{IsAlias, IsFound, alias_of, alias_value, answered}
+use Rattle.authority.specs.Lookup.{Alias, Cut, Data, Finding, NoName, Outside, alias_at, alias_else, alias_in, alias_or}
 use Rattle.authority.specs.Lookup.{first_target, least_ttl, lookup, record_of, records, records_of, shown, target_of}
 use Rattle.authority.specs.Answer.{AnswerValue, addresses_found, answer, answer_found, answer_value, end_like, extras}
 use Rattle.authority.specs.Answer.{host_in, negative, of_data, owns, referring, with_authority, with_host}
@@ -12,6 +12,7 @@ use Rattle.authority.specs.declared.zone_ref.ZoneRef.{ZoneRef}
 use Rattle.authority.specs.declared.found.Found.TheVariants as codes
 use Rattle.authority.specs.declared.found.Found.{Found}
 use Rattle.base.specs.names.Labels.{NameValue}
+use Rattle.base.specs.names.NameOrder.{same_name}
 use Rattle.base.specs.RecordType.{same_type}
 use Rattle.base.specs.RrKey.{key_of}
 use Rattle.base.specs.declared.dns_class.DNSClass.{DNSClass}
@@ -34,6 +35,8 @@ use Rattle.std.proofs.Common.{ap, arith, drop, length, refl, subst, sym, take, �
 use Rattle.std.proofs.lemmas.Bool.{cond-false, cond-true}
 use Rattle.std.proofs.Math.Seq.{drop-append_seam, take-append_seam, take-length}
 use Rattle.std.proofs.lemmas.List.{length-drop}
+use Rattle.std.proofs.lemmas.List.Folds.{list_any-append}
+use Rattle.std.proofs.Math.Bool.{or-false}
 use Rattle.std.proofs.lemmas.Option.{same_Some}
 use Rattle.std.proofs.lemmas.Result.{IfOk-weaker}
 use Rattle.std.specs.Borrow.{Bor}
@@ -118,16 +121,7 @@ pub of_value : (r : Result Answer ProtoError) (v w : AnswerValue) → v ≡ w �
     → IfOk r (λ a. answer_value a ≡ w)
 of_value r v w e h = IfOk-weaker r (λ a. answer_value a ≡ v) (λ a. answer_value a ≡ w) (λ a is. is ∙ e) h
 
--- the record of the alias that stands first in a set
-abbrev pub alias_value : DNSClass → NameValue → ℕ → NameValue → Record RData
-alias_value class owner ttl target = record {
-  name = owner;
-  dns_class = class;
-  ttl = ttl;
-  rdata = kinds.CNAME (record { name = target });
-  mdns_cache_flush = false;
-}
-
+-- the first alias among data is the record of one
 module _ (class : DNSClass) (owner : NameValue) (ttl : ℕ) (r : Record RData) (target : NameValue) where
   abbrev with_rdata : RData → Record RData
   with_rdata d = record { name = owner; dns_class = class; ttl = ttl; rdata = d; mdns_cache_flush = false }
@@ -149,7 +143,7 @@ module _ (class : DNSClass) (owner : NameValue) (ttl : ℕ) (r : Record RData) (
 
 alias_is : (class : DNSClass) (owner : NameValue) (s : SetValue) (r : Record RData) (target : NameValue)
     → alias_in (answered class owner s) ≡ Some (r, target)
-    → r ≡ alias_value class owner (least_ttl (shown (data_in_set s))) target
+    → r ≡ alias_of class owner s target
 alias_is class owner s r target h =
     alias_among class owner (least_ttl (shown (data_in_set s))) r target (shown (data_in_set s)) h
 
@@ -222,7 +216,7 @@ module _ (zone : ZoneRef) (t : RecordType) (room : ℕ) (done : List (Record RDa
   -- an alias, and the answers with its record
   module _ (s : Bor SetValue) (target : Bor NameValue) (leads : found ≡ codes.Alias s target)
       (more : List (Record RData))
-      (added : more ≡ done ++ alias_value zone.class n (least_ttl (shown (data_in_set s.now))) target.now ∷ []) where
+      (added : more ≡ done ++ alias_of zone.class n s.now target.now ∷ []) where
     h : IsFound zone.class zone.sets.now n (codes.Alias s target) (lookup z t n)
     h = found_as (codes.Alias s target) leads
 
@@ -233,19 +227,44 @@ module _ (zone : ZoneRef) (t : RecordType) (room : ℕ) (done : List (Record RDa
     answer_last none = ap (answer_found z t room done n) h.1
         ∙ given_last z t room done n h.0 target.now none ∙ ap (λ xs. with_authority ServFail xs [] []) with_alias
 
-    pub answer_again : owns target.now more ≡ true → answer z t room done n ≡ with_authority ServFail more [] []
-    answer_again own = ap (answer_found z t room done n) h.1
-        ∙ given_again z t room done n h.0 target.now (ap (owns target.now) with_alias ∙ own)
-        ∙ ap (λ xs. with_authority ServFail xs [] []) with_alias
+    owns_is : owns target.now (done ++ h.0 ∷ []) ≡ (owns target.now done || same_name target.now n)
+    owns_is = ap (owns target.now) with_alias ∙ ap (owns target.now) added
+        ∙ list_any-append (λ (r : Record RData). same_name target.now r.name) done
+        (alias_of zone.class n s.now target.now ∷ [])
+        ∙ ap (λ b. owns target.now done || b) (or-false (same_name target.now n))
 
-    pub answer_on : 0 < room → owns target.now more ≡ false
+    pub stays_again : (owns target.now done || same_name target.now n) ≡ true
+        → answer z t 0 done n ≡ answer z t room done n
+    stays_again own = ap (answer_found z t 0 done n) h.1 ∙ given_last z t 0 done n h.0 target.now refl
+        ∙ sym (ap (answer_found z t room done n) h.1 ∙ given_again z t room done n h.0 target.now (owns_is ∙ own))
+
+    pub answer_on : 0 < room → (owns target.now done || same_name target.now n) ≡ false
         → answer z t room done n ≡ answer z t (room - 1) more target.now
     answer_on some own =
         let one_less : room ≡ suc (room - 1) = omega arith in
         ap (answer_found z t room done n) h.1
         ∙ ap (λ k. answer_found z t k done n (Alias h.0 target.now)) one_less
-        ∙ given_on z t (room - 1) done n h.0 target.now (ap (owns target.now) with_alias ∙ own)
+        ∙ given_on z t (room - 1) done n h.0 target.now (owns_is ∙ own)
         ∙ ap (λ xs. answer z t (room - 1) xs target.now) with_alias
+
+-- where no alias was found, it doesn't matter how many more may be followed
+module _ (z : Zone) (t : RecordType) (room : ℕ) (done : List (Record RData)) (n : NameValue) where
+  alike : (f g : Finding) → f ≡ g → answer_found z t 0 done n g ≡ answer_found z t room done n g
+      → answer_found z t 0 done n f ≡ answer_found z t room done n f
+  alike f g e h = ap (answer_found z t 0 done n) e ∙ h ∙ sym (ap (answer_found z t room done n) e)
+
+  pub stays : (class : DNSClass) (sets : BTreeMap RrKey SetValue) (found : Found) (f : Finding)
+      → ((s : Bor SetValue) (target : Bor NameValue) → found ≡ codes.Alias s target → ⊥)
+      → IsFound class sets n found f → answer_found z t 0 done n f ≡ answer_found z t room done n f
+  unfolding answer_found
+  stays class sets codes.Outside f other is = alike f Outside is refl
+  stays class sets codes.NoName f other is = alike f NoName is refl
+  stays class sets codes.NoData f other is = alike f (Data []) is refl
+  stays class sets (codes.Cut s) f other is = alike f (Cut is.0) is.1 refl
+  stays class sets (codes.Alias s target) f other is = absurd (other s target refl)
+  stays class sets (codes.Data s) f other is = alike f (Data (answered class n s.now)) is refl
+  stays class sets (codes.All found) f other is =
+      alike f (Data (flat_map (λ (s : Bor SetValue). answered class n s.now) found.items)) is refl
 
 -- the answer of records that are there
 data_some : (z : Zone) (t : RecordType) (done : List (Record RData)) (n : NameValue) (rs : List (Record RData))

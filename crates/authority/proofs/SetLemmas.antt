@@ -1,8 +1,7 @@
 -- The sets of a map as those of the zone that it holds, and the records that are answered of them.
 use Rattle.authority.specs.Found.{answered}
-use Rattle.authority.specs.Lookup.{exists, exists_among, least_ttl, record_of, records, records_of, records_of_sets}
+use Rattle.authority.specs.Lookup.{exists, exists_among, least_ttl, records, records_of, records_of_sets}
 use Rattle.authority.specs.Lookup.{shown}
-use Rattle.authority.specs.Answer.{as_negative}
 use Rattle.base.proofs.names.KeyLemmas.{key_cmp-exact, key_cmp-total}
 use Rattle.base.specs.names.Labels.{NameValue}
 use Rattle.base.specs.names.Parents.{is_at_or_below}
@@ -11,8 +10,7 @@ use Rattle.base.specs.declared.dns_class.DNSClass.{DNSClass}
 use Rattle.base.specs.declared.rr_key.RrKey.{RrKey}
 use Rattle.base_data.specs.declared.rdata.RData.{RData}
 use Rattle.op_use.proofs.MapZones.{any_entries, get_zone}
-use Rattle.op_use.proofs.OwnerKeys.{next_owned, owned_entry, starts}
-use Rattle.op_use.specs.OwnerWalk.{least}
+use Rattle.op_use.proofs.OwnerKeys.{next_owned, owned_entry}
 use Rattle.op_use.specs.Applying.{data_in_set, entry_of, zone_of_map}
 use Rattle.op_use.specs.Zone.{Datum, is_owned}
 use Rattle.op_use.specs.NamedChanges.{datum_of}
@@ -23,9 +21,7 @@ use Rattle.std.proofs.lemmas.Bool.{cond-false, cond-true}
 use Rattle.std.proofs.lemmas.List.Folds.{flat_map-map}
 use Rattle.std.proofs.lemmas.List.{map-append}
 use Rattle.std.proofs.lemmas.Map.Keys.{sorted_head, sorted_tail}
-use Rattle.std.proofs.lemmas.Simd.{map-map}
 use Rattle.std.specs.BTreeMap as tree
-use Rattle.std.specs.BTreeMap.Range.{entries_between}
 use Rattle.std.specs.BTreeMap.{BTreeMap}
 use Rattle.std.specs.Bool.{passes}
 use Rattle.std.specs.FinMap as fin
@@ -41,7 +37,6 @@ use Rattle.std.specs.Prelude.{Bool, List, None, Option, Some, [], cond, false, m
 use Rattle.std.specs.Prelude.{unwrap_or, ℕ}
 use Rattle.std.specs.Prelude.{◌&&◌, ◌∷◌, ◌≡◌}
 use Rattle.std.specs.declared.cmp.Ordering.TheVariants.{Less}
-use Rattle.std.specs.declared.ops.Bound.TheVariants.{Included, Unbounded}
 
 module _ (origin : NameValue) (class : DNSClass) (m : BTreeMap RrKey SetValue) where
   -- a name exists in the zone exactly where it does by the keys of the map
@@ -129,15 +124,6 @@ module _ (owner : NameValue) where
       (owned_entry owner)) i ∙ next_owned owner (k, s.now) es own))
       ∙ h
 
-  pub sets_begin : (found : List (Bor SetValue)) (k : RrKey) (s es : List (RrKey × SetValue)) → found ≡ []
-      → k ≡ least owner → IsStrictlySortedBy key_cmp (keys_of es)
-      → s ≡ entries_between key_cmp (Included k) Unbounded es
-      → map (λ (s : Bor SetValue). s.now) found ++ values_of (take_while (owned_entry owner) s) ≡ values_of (filter
-      (λ (e : RrKey × SetValue). is_owned owner e.0) es)
-  sets_begin found k s es none e ordered h =
-      ap (λ xs. map (λ (s : Bor SetValue). s.now) xs ++ values_of (take_while (owned_entry owner) s)) none
-      ∙ ap values_of (starts owner (λ q. true) k s es e ordered h)
-
 -- ---- the records of a set, one after another
 
 -- what the least TTL comes to of data that is left, after some
@@ -169,14 +155,3 @@ module _ (f : Datum → Record RData) (rs : List (Record RData)) (i : ℕ) (r : 
   added filled more e = ap (λ xs. xs ++ map f (shown_from rs (i + 1))) e
       ∙ append_assoc items (f (datum_of r) ∷ []) (map f (shown_from rs (i + 1)))
       ∙ ap (λ ds. items ++ map f ds) (sym (shown_here rs i r below is ∙ cond-true _ _ _ (ap not filled))) ∙ so_far
-
--- the records of a negative answer, before the first
-pub negative_begins : (class : DNSClass) (owner : NameValue) (least : ℕ) (items entries records : List (Record RData))
-    → items ≡ [] → entries ≡ records → least ≡ least_ttl (shown (map datum_of entries))
-    → items ++ map (λ (d : Datum). as_negative (record_of class owner least d)) (shown_from entries 0)
-    ≡ map as_negative (records_of class owner (map datum_of records))
-negative_begins class owner least items entries records none same is =
-    ap (λ xs. xs ++ map (λ (d : Datum). as_negative (record_of class owner least d)) (shown_from entries 0)) none
-    ∙ sym (map-map as_negative (record_of class owner least) (shown (map datum_of entries)))
-    ∙ ap (λ ttl. map as_negative (map (record_of class owner ttl) (shown (map datum_of entries)))) is
-    ∙ ap (λ (xs : List (Record RData)). map as_negative (records_of class owner (map datum_of xs))) same

@@ -1,5 +1,6 @@
 -- What `lookup` answers, as what the zone has.
-use Rattle.authority.specs.Lookup.{Alias, Cut, Data, Finding, NoName, Outside, alias_in, exists_among, records_of}
+use Rattle.authority.specs.Lookup.{Alias, Cut, Data, Finding, NoName, Outside, alias_in, exists_among, least_ttl}
+use Rattle.authority.specs.Lookup.{records_of, shown}
 use Rattle.authority.specs.declared.found.Found.TheVariants as codes
 use Rattle.authority.specs.declared.found.Found.{Found}
 use Rattle.authority.specs.declared.sets.AtName.{AtName}
@@ -9,6 +10,7 @@ use Rattle.base.specs.declared.dns_class.DNSClass.{DNSClass}
 use Rattle.base.specs.declared.record_type.RecordType.TheVariants as types
 use Rattle.base.specs.declared.record_type.RecordType.{RecordType}
 use Rattle.base.specs.declared.rr_key.RrKey.{RrKey}
+use Rattle.base_data.specs.declared.rdata.RData.TheVariants as kinds
 use Rattle.base_data.specs.declared.rdata.RData.{RData}
 use Rattle.op_use.specs.Applying.{data_in_set}
 use Rattle.rr.specs.RecordSet.{SetValue}
@@ -18,11 +20,25 @@ use Rattle.std.specs.BTreeMap.{BTreeMap}
 use Rattle.std.specs.Borrow.{Bor}
 use Rattle.std.specs.List.{flat_map}
 use Rattle.std.specs.Option.{option_copied}
-use Rattle.std.specs.Prelude.{List, None, Option, Some, [], ◌≡◌}
+use Rattle.std.specs.Prelude.{List, None, Option, Some, [], false, ℕ, ◌≡◌}
 
 -- the records that are answered of a set, whose owner is the name as it was asked
 abbrev pub answered : DNSClass → NameValue → SetValue → List (Record RData)
 answered class owner s = records_of class owner (data_in_set s)
+
+-- the record of an alias that leads to a name
+abbrev pub alias_value : DNSClass → NameValue → ℕ → NameValue → Record RData
+alias_value class owner ttl target = record {
+  name = owner;
+  dns_class = class;
+  ttl = ttl;
+  rdata = kinds.CNAME (record { name = target });
+  mdns_cache_flush = false;
+}
+
+-- the record that is answered of an alias in a set
+abbrev pub alias_of : DNSClass → NameValue → SetValue → NameValue → Record RData
+alias_of class owner s target = alias_value class owner (least_ttl (shown (data_in_set s))) target
 
 -- What stands at a name is what the map has under its keys, and whether it has any at the name or below it.
 abbrev pub IsAtName : BTreeMap RrKey SetValue → NameValue → RecordType → AtName → Type 0

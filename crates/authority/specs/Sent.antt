@@ -57,10 +57,14 @@ abbrev pub sent_of : ℕ → Option MessageValue → Result (Option (List ℕ)) 
 sent_of limit (Some m) = some_bytes (bytes_of limit m)
 sent_of limit None = Ok None
 
+-- what is sent for a message
+abbrev pub sent_to : Zone → Carrier → MessageValue → Result (Option (List ℕ)) ProtoError
+sent_to z carrier m = sent_of (most_sent carrier (payload_taken m.edns)) (reply z m)
+
 -- what is sent for a message, or for bytes that begin with none
 abbrev pub sent_by : Zone → Carrier → List ℕ → Result (MessageValue × ℕ) DecodeError
     → Result (Option (List ℕ)) ProtoError
-sent_by z carrier bytes (Ok m) = sent_of (most_sent carrier (payload_taken m.0.edns)) (reply z m.0)
+sent_by z carrier bytes (Ok m) = sent_to z carrier m.0
 sent_by z carrier bytes (Err f) = sent_of (most_sent carrier MIN_PAYLOAD) (malformed bytes)
 
 -- what a server sends for bytes that it received

@@ -9,6 +9,7 @@ ghost use Rattle.std.specs.Prelude.{IfOk, IsOkUnless, OnOk, ◌++◌, ◌≡◌}
 
 use crate::found::{Found, lookup};
 use crate::records::{add_all, add_answered};
+use crate::sets::set_at;
 use crate::zone_ref::ZoneRef;
 use base::{Name, ProtoError, RecordType};
 use base_data::RData;
@@ -50,7 +51,7 @@ fn add_glue(
         ≡ additionals.old.items
         ++ records (zone_of zone.now) host.now (key_of host.now record_type)) }
 {
-    match zone.set_at(host, record_type)? {
+    match set_at(zone.sets, host, record_type)? {
         Some(set) => add_answered(additionals, host, zone.class, set),
         None => Ok(()),
     }

@@ -1,17 +1,21 @@
 //! What a server answers to a question from a zone (RFC 1034, 4.3.2; RFC 2308; RFC 6604).
 
-ghost use Rattle.authority.specs.Answer.{answer as the_answer, answer_value, end_like as the_end, negative as the_negative, of_data, owns as is_owner, referring, with_authority};
-ghost use Rattle.authority.specs.Found.{answered};
+ghost use Rattle.authority.specs.Answer.{answer as the_answer, answer_value, end_like as the_end};
+ghost use Rattle.authority.specs.Answer.{negative as the_negative, of_data, owns, referring, with_authority};
+ghost use Rattle.authority.specs.Found.{IsFound, alias_of, answered};
+ghost use Rattle.authority.specs.Lookup.{lookup as the_finding};
 ghost use Rattle.authority.specs.ZoneRef.{AreUnderKeys, zone_of};
+ghost use Rattle.base.specs.names.NameOrder.{same_name};
 ghost use Rattle.op_use.specs.Applying.{zone_of_map};
 ghost use Rattle.base_data.specs.declared.rdata.RData.{RData as Data};
 ghost use Rattle.rr.specs.declared.record.Record.{Record as Entry};
 ghost use Rattle.std.specs.List.{flat_map};
-ghost use Rattle.std.specs.Prelude.{IfOk, IsOkUnless, List, [], length, ◌++◌, ◌≡◌, ◌≤◌};
+ghost use Rattle.std.specs.Prelude.{IfOk, IsOkUnless, List, [], length, ◌++◌, ◌||◌, ◌∷◌, ◌≡◌, ◌≤◌};
 
 use crate::additionals::additionals;
 use crate::found::{Found, lookup};
-use crate::records::{add_all, add_answered, alias_record, end_like, negative_records};
+use crate::records::{add_alias, add_all, add_answered, end_like, negative_records};
+use crate::sets::set_at;
 use crate::zone_ref::ZoneRef;
 use base::{DNSClass, Name, ProtoError, RecordType, RrKey};
 use op::ResponseCode;
@@ -88,39 +92,96 @@ pub(crate) fn answer_from(
     ensures only { IsOkUnless result ProtoError.Memory }
 {
     let mut answers = Vec::new(zone.alloc);
+    let (last, found) = follow(zone, name, record_type, &mut answers)?;
+    answer_found(zone, record_type, last, found, answers)
+}
+
+/// Follows aliases from a name and adds them to the answers: the last name, and what was found for it. That is an alias
+/// where it isn't followed.
+fn follow<'z>(
+    zone: &ZoneRef<'z>,
+    name: &'z Name,
+    record_type: RecordType,
+    answers: &mut Vec<Record>,
+) -> Result<(&'z Name, Found<'z>), ProtoError>
+    ensures found { IfOk result (λ last. IsFound zone.now.class zone.now.sets.now last.0.now last.1
+        (the_finding (zone_of zone.now) record_type last.0.now)) }
+    // With no more aliases the answer is the same.
+    ensures followed { IfOk result (λ last.
+        the_answer (zone_of zone.now) record_type 0 answers.new.items last.0.now
+        ≡ the_answer (zone_of zone.now) record_type MAX_ALIASES answers.old.items name.now) }
+    ensures only { IsOkUnless result ProtoError.Memory }
+{
     let mut room = MAX_ALIASES;
     let mut name = name;
     'names: loop {
         match lookup(zone.alloc, zone.sets, zone.origin, name, record_type)? {
-            Found::Outside => return Ok(plain(zone.alloc, ResponseCode::NoError, answers)),
-            Found::NoName => return negative(zone, ResponseCode::NXDomain, name, answers),
-            Found::Cut(servers) => return referral(zone, name, servers, answers),
             Found::Alias(set, target) => {
-                let alias = alias_record(name, zone.class, set, target)?;
-                answers.push(alias)?;
-                if room == 0 || owns(target, &answers) {
-                    return Ok(plain(zone.alloc, ResponseCode::ServFail, answers));
+                if room == 0 || is_before(target, name, answers) {
+                    return Ok((name, Found::Alias(set, target)));
                 }
+                add_alias(answers, name, zone.class, set, target)?;
                 room -= 1;
                 name = target;
             }
-            Found::NoData => return negative(zone, ResponseCode::NoError, name, answers),
-            Found::Data(set) => return data(zone, record_type, name, set, answers),
-            Found::All(sets) => return all_data(zone, record_type, name, sets, answers),
+            found => return Ok((name, found)),
         }
     }
 }
 
-/// Whether a name owns one of these records.
-fn owns(name: &Name, records: &[Record]) -> bool
-    ensures { result ≡ is_owner name.now records.now }
+/// Whether a name is the last one, or owns one of these records.
+fn is_before(name: &Name, last: &Name, records: &[Record]) -> bool
+    ensures { result ≡ (owns name.now records.now || same_name name.now last.now) }
 {
     for record in records {
         if *name == record.name {
             return true;
         }
     }
-    false
+    *name == *last
+}
+
+/// The answer of what was found for the last name after aliases, where no more are followed.
+fn answer_found(
+    zone: &ZoneRef<'_>,
+    record_type: RecordType,
+    name: &Name,
+    found: Found<'_>,
+    answers: Vec<Record>,
+) -> Result<Answer, ProtoError>
+    requires keys { AreUnderKeys zone.now.sets.now }
+    requires found { IsFound zone.now.class zone.now.sets.now name.now found
+        (the_finding (zone_of zone.now) record_type name.now) }
+    ensures answered { IfOk result (λ a. answer_value a
+        ≡ the_answer (zone_of zone.now) record_type 0 answers.items name.now) }
+    ensures only { IsOkUnless result ProtoError.Memory }
+{
+    match found {
+        Found::Outside => Ok(plain(zone.alloc, ResponseCode::NoError, answers)),
+        Found::NoName => negative(zone, ResponseCode::NXDomain, name, answers),
+        Found::NoData => negative(zone, ResponseCode::NoError, name, answers),
+        Found::Cut(servers) => referral(zone, name, servers, answers),
+        Found::Alias(set, target) => unfollowed(zone, name, set, target, answers),
+        Found::Data(set) => data(zone, record_type, name, set, answers),
+        Found::All(sets) => all_data(zone, record_type, name, sets, answers),
+    }
+}
+
+/// The answer that ends with an alias that isn't followed.
+fn unfollowed(
+    zone: &ZoneRef<'_>,
+    name: &Name,
+    set: &RecordSet,
+    target: &Name,
+    answers: Vec<Record>,
+) -> Result<Answer, ProtoError>
+    ensures value { IfOk result (λ a. answer_value a ≡ with_authority ResponseCode.ServFail
+        (answers.items ++ alias_of zone.now.class name.now set.now target.now ∷ []) [] []) }
+    ensures only { IsOkUnless result ProtoError.Memory }
+{
+    let mut answers = answers;
+    add_alias(&mut answers, name, zone.class, set, target)?;
+    Ok(plain(zone.alloc, ResponseCode::ServFail, answers))
 }
 
 /// An answer with AA that has nothing but answers. Takes no memory.
@@ -141,7 +202,7 @@ fn soa_over(zone: &ZoneRef<'_>, name: &Name) -> Result<Vec<Record>, ProtoError>
     ensures value { IfOk result (λ v. v.items ≡ the_negative (zone_of zone.now) name.now) }
     ensures only { IsOkUnless result ProtoError.Memory }
 {
-    let Some(set) = zone.set_at(zone.origin, RecordType::SOA)? else {
+    let Some(set) = set_at(zone.sets, zone.origin, RecordType::SOA)? else {
         return Ok(Vec::new(zone.alloc));
     };
     let owner = end_like(zone.origin, name)?;

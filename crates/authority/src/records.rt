@@ -2,13 +2,11 @@
 //! (RFC 2181, 5.2).
 
 ghost use Rattle.authority.specs.Answer.{as_negative, end_like as the_end, capped_ttl as the_capped_ttl};
-ghost use Rattle.authority.specs.Found.{answered};
+ghost use Rattle.authority.specs.Found.{alias_of, answered};
 ghost use Rattle.authority.specs.Lookup.{least_ttl as the_least, shown};
-ghost use Rattle.base_data.specs.declared.rdata.RData.TheVariants as kinds;
-ghost use Rattle.op_use.specs.Applying.{data_in_set};
 ghost use Rattle.op_use.specs.NamedChanges.{datum_of};
 ghost use Rattle.std.specs.List.{flat_map};
-ghost use Rattle.std.specs.Prelude.{IfOk, IsOkUnless, OnOk, false, map, ◌++◌, ◌≡◌};
+ghost use Rattle.std.specs.Prelude.{IfOk, IsOkUnless, OnOk, [], false, map, ◌++◌, ◌∷◌, ◌≡◌};
 
 use base::{DNSClass, Name, ProtoError};
 use base_data::{CNAME, RData};
@@ -95,29 +93,25 @@ pub(crate) fn add_all(
     Ok(())
 }
 
-/// The record of the alias that stands first in a set and leads to this name.
-pub(crate) fn alias_record(
+/// Adds the record of the alias that stands first in a set and leads to this name.
+pub(crate) fn add_alias(
+    records: &mut Vec<Record>,
     owner: &Name,
     class: DNSClass,
     set: &RecordSet,
     target: &Name,
-) -> Result<Record, AllocError>
-    ensures { IfOk result (λ r. r
-        ≡ record {
-          name = owner.now;
-          dns_class = class;
-          ttl = the_least (shown (data_in_set set.now));
-          rdata = kinds.CNAME (record { name = target.now });
-          mdns_cache_flush = false;
-        }) }
+) -> Result<(), AllocError>
+    ensures { OnOk result (records.new.items
+        ≡ records.old.items ++ alias_of class owner.now set.now target.now ∷ []) }
 {
-    Ok(Record {
+    let alias = Record {
         name: owner.clone()?,
         dns_class: class,
         ttl: least_ttl(set.as_slice()),
         rdata: RData::CNAME(CNAME::new(target.clone()?)),
         mdns_cache_flush: false,
-    })
+    };
+    Ok(records.push(alias)?)
 }
 
 /// The TTL of data in a negative answer: that of an SOA is no more than its MINIMUM (RFC 2308, 3 and 5).
@@ -130,6 +124,16 @@ fn capped_ttl(rdata: &RData, ttl: u32) -> u32
     }
 }
 
+/// The records with the TTLs of a negative answer.
+fn with_capped_ttls(mut records: Vec<Record>) -> Vec<Record>
+    ensures { result.items ≡ map as_negative records.items }
+{
+    for record in records.iter_mut() {
+        record.ttl = capped_ttl(&record.rdata, record.ttl);
+    }
+    records
+}
+
 /// The records that a set gives for a negative answer (RFC 2308, 3).
 pub(crate) fn negative_records(
     alloc: Global,
@@ -140,17 +144,8 @@ pub(crate) fn negative_records(
     ensures { IfOk result (λ v. v.items ≡ map as_negative (answered class owner.now set.now)) }
 {
     let mut records = Vec::new(alloc);
-    let entries = set.as_slice();
-    let least = least_ttl(entries);
-    for entry in entries {
-        if entry.rdata.is_update() {
-            continue;
-        }
-        let ttl = capped_ttl(&entry.rdata, least);
-        let answer = record_of(owner, class, ttl, &entry.rdata)?;
-        records.push(answer)?;
-    }
-    Ok(records)
+    add_answered(&mut records, owner, class, set)?;
+    Ok(with_capped_ttls(records))
 }
 
 /// The end of a name that has as many labels as another.

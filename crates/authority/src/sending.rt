@@ -1,6 +1,6 @@
 //! Which bytes a server sends for those that it received (RFC 1035, 4.2; RFC 2181, 9; RFC 6891, 6.2.5 and 7).
 
-ghost use Rattle.authority.specs.Sent.{bytes_of as the_bytes, is_cut_short, malformed as the_malformed, most_sent as the_most, sent, sent_of};
+ghost use Rattle.authority.specs.Sent.{bytes_of as the_bytes, is_cut_short, malformed as the_malformed, most_sent as the_most, sent, sent_of, sent_to};
 ghost use Rattle.authority.specs.ZoneRef.{AreUnderKeys};
 ghost use Rattle.op.specs.Message.{message_value};
 ghost use Rattle.op_use.specs.Applying.{zone_of_map};
@@ -56,13 +56,29 @@ pub fn respond(
         ⊎ (sent (zone_of_map origin.now class sets.now) carrier received.now ≡ Err e)) }
 {
     match Message::from_vec(alloc, received) {
-        Ok(query) => {
-            let limit = most_sent(carrier, query.max_payload());
-            send(reply(alloc, sets, origin, class, &query)?, limit)
-        }
+        Ok(query) => respond_to(alloc, sets, origin, class, &query, carrier),
         Err(DecodeError::Memory) => Err(ProtoError::Memory),
         Err(_) => send(malformed(alloc, received), most_sent(carrier, MIN_PAYLOAD)),
     }
+}
+
+/// The bytes that a server sends for a message, or none.
+fn respond_to(
+    alloc: Global,
+    sets: &BTreeMap<RrKey, RecordSet>,
+    origin: &Name,
+    class: DNSClass,
+    query: &Message,
+    carrier: Carrier,
+) -> Result<Option<Vec<u8>>, ProtoError>
+    requires { AreUnderKeys sets.now }
+    ensures sent { IfOk result (λ o. sent_to (zone_of_map origin.now class sets.now) carrier
+        (message_value query.now) ≡ Ok (option_map (λ v. v.items) o)) }
+    ensures refused { IfErr result (λ e. (e ≡ ProtoError.Memory)
+        ⊎ (sent_to (zone_of_map origin.now class sets.now) carrier (message_value query.now) ≡ Err e)) }
+{
+    let reply = reply(alloc, sets, origin, class, query)?;
+    send(reply, most_sent(carrier, query.max_payload()))
 }
 
 /// The most bytes that are sent to one who takes so many: by datagram at least 512 (RFC 6891, 6.2.5).

@@ -3,6 +3,7 @@
 ghost use Rattle.authority.specs.Found.{IsAtName, IsCutSet};
 ghost use Rattle.authority.specs.Lookup.{cut_over as the_cut, encloser, encloses as is_encloser, highest_cut as the_highest, wildcard_below};
 ghost use Rattle.base.specs.RecordType.{same_type};
+ghost use Rattle.base.specs.names.Labels.{NameValue};
 ghost use Rattle.base.specs.names.Parents.{is_below as lies_below, is_within as lies_within, parent};
 ghost use Rattle.base.specs.RrKey.{key_cmp, key_of as the_key};
 ghost use Rattle.base.specs.declared.rr_key.RrKey.{RrKey as Key};
@@ -16,11 +17,11 @@ ghost use Rattle.std.specs.Bool.{then_some};
 ghost use Rattle.std.specs.List.{filter};
 ghost use Rattle.std.specs.Map.{values_of};
 ghost use Rattle.std.specs.Option.{option_copied, option_or};
-ghost use Rattle.std.specs.Prelude.{IfOk, IsOkUnless, OnOk, map, true, ◌≡◌};
+ghost use Rattle.std.specs.Prelude.{IfOk, IsOkUnless, OnOk, map, true, ◌++◌, ◌≡◌};
 
 use base::{Name, ProtoError, RecordType, RrKey};
 use rr::RecordSet;
-use std::alloc::Global;
+use std::alloc::{AllocError, Global};
 use std::collections::BTreeMap;
 
 /// Whether `name` is `other`, or lies below it.
@@ -35,6 +36,19 @@ fn is_below(other: &Name, name: &Name) -> bool
     ensures { result ≡ lies_below other.now name.now }
 {
     is_within(other, name) && *name != *other
+}
+
+/// The set of an owner and a type, if there is one.
+pub(crate) fn set_at<'z>(
+    sets: &'z BTreeMap<RrKey, RecordSet>,
+    owner: &Name,
+    record_type: RecordType,
+) -> Result<Option<&'z RecordSet>, AllocError>
+    ensures { IfOk result (λ o. option_copied o
+        ≡ get key_cmp sets.now (the_key owner.now record_type)) }
+{
+    let key = RrKey::of(owner, record_type)?;
+    Ok(sets.get(&key))
 }
 
 /// What stands at a name: of its own sets those that a look-up asks for.
@@ -61,18 +75,31 @@ pub(crate) fn at_name<'z>(
     ensures only { IsOkUnless result ProtoError.Memory }
 {
     let least = RrKey::of(name, RecordType::ZERO)?;
+    Ok(own_sets(sets, name, record_type, &least))
+}
+
+/// What stands at a name, of which this is the least key.
+fn own_sets<'z>(
+    sets: &'z BTreeMap<RrKey, RecordSet>,
+    name: &Name,
+    record_type: RecordType,
+    least: &RrKey,
+) -> AtName<'z>
+    requires { least.now ≡ the_key name.now RecordType.ZERO }
+    ensures { IsAtName sets.now name.now record_type result }
+{
     let mut own = AtName {
         exists: false,
         servers: None,
         alias: None,
         asked: None,
     };
-    for (key, set) in sets.range(&least..) {
+    for (key, set) in sets.range(least..) {
         if least.name != key.name {
-            return Ok(AtName {
+            return AtName {
                 exists: own.exists || is_within(name, key.name.as_name()),
                 ..own
-            });
+            };
         }
         own = AtName {
             exists: true,
@@ -81,7 +108,7 @@ pub(crate) fn at_name<'z>(
             asked: own_set(own.asked, record_type, key, set),
         };
     }
-    Ok(own)
+    own
 }
 
 /// The set of a type that was found before, or else this one, where its key is of the type.
@@ -111,8 +138,8 @@ fn highest_cut<'z>(
     let mut highest = None;
     let mut end = name;
     while is_below(origin, &end) {
-        let key = RrKey::of(&end, RecordType::NS)?;
-        highest = sets.get(&key).or(highest);
+        let servers = set_at(sets, &end, RecordType::NS)?;
+        highest = servers.or(highest);
         end = end.base_name()?;
     }
     Ok(highest)
@@ -197,11 +224,27 @@ pub(crate) fn sets_of<'z>(
 {
     let least = RrKey::of(owner, RecordType::ZERO)?;
     let mut found = Vec::new(alloc);
-    for (key, set) in sets.range(&least..) {
+    add_sets(sets, &least, &mut found)?;
+    Ok(found)
+}
+
+/// Adds the sets of an owner, of which this is the least key.
+fn add_sets<'z>(
+    sets: &'z BTreeMap<RrKey, RecordSet>,
+    least: &RrKey,
+    found: &mut Vec<&'z RecordSet>,
+) -> Result<(), AllocError>
+    ensures added { OnOk result ((owner : NameValue) → least.now ≡ the_key owner RecordType.ZERO
+        → map (λ s. s.now) found.new.items ≡ map (λ s. s.now) found.old.items
+        ++ values_of (filter (λ (e : Key × SetValue). is_owned owner e.0) sets.now.entries)) }
+    // The keys of the map are in order, as they always are.
+    ensures ordered { IsStrictlySortedBy key_cmp (keys sets.now) }
+{
+    for (key, set) in sets.range(least..) {
         if least.name != key.name {
-            return Ok(found);
+            return Ok(());
         }
         found.push(set)?;
     }
-    Ok(found)
+    Ok(())
 }

@@ -1,7 +1,11 @@
 //! Which messages a server sends for a zone transfer (RFC 5936, 2.2).
 
-ghost use Rattle.authority.specs.Reply.{framed as the_frame, header_refusal as the_header_refusal, one_question as the_question, only_code as the_code};
-ghost use Rattle.authority.specs.Transfer.{IsFull, IsNextOf, IsTooLarge, IsTransferred, axfr_refusal as the_axfr_refusal, is_end, left_at, one_axfr_refusal as the_one_refusal, questions_at as the_questions, records_from, room_beside as the_room, soa_of as the_soa};
+ghost use Rattle.authority.specs.Reply.{framed as the_frame, header_refusal as the_header_refusal};
+ghost use Rattle.authority.specs.Reply.{one_question as the_question, only_code as the_code};
+ghost use Rattle.authority.specs.Transfer.{IsFull, IsNextOf, IsTooLarge, IsTransferred, is_end, left_at, records_from};
+ghost use Rattle.authority.specs.Transfer.{axfr_refusal as the_axfr_refusal, one_axfr_refusal as the_one_refusal};
+ghost use Rattle.authority.specs.Transfer.{questions_at as the_questions, room_beside as the_room, soa_of as the_soa};
+ghost use Rattle.authority.specs.Transfer.{transferring};
 ghost use Rattle.authority.specs.declared.transferring.TransferPlace.{TransferPlace as Place};
 ghost use Rattle.op.specs.Message.{MessageValue, message_value};
 ghost use Rattle.op_use.specs.Server.{and_then};
@@ -12,6 +16,7 @@ use crate::filling::Answers;
 use crate::records::{least_ttl, record_of};
 use crate::replies::{framed, header_refusal, is_of_class, one_question, only_code};
 use crate::room::room_beside;
+use crate::sets::set_at;
 use crate::zone_ref::ZoneRef;
 use base::{DNSClass, Name, ProtoError, RecordType, RrKey};
 use op::{Message, MessageType, Query, ResponseCode};
@@ -137,7 +142,7 @@ fn refused(
 fn soa_of(zone: &ZoneRef<'_>) -> Result<Option<Record>, AllocError>
     ensures { IfOk result (λ o. o ≡ the_soa zone.now.origin.now zone.now.class zone.now.sets.now) }
 {
-    match zone.set_at(zone.origin, RecordType::SOA)? {
+    match set_at(zone.sets, zone.origin, RecordType::SOA)? {
         Some(set) => first_answer(zone.class, set),
         None => Ok(None),
     }
@@ -192,7 +197,21 @@ fn next_message(
     if answers.records.is_empty() {
         return Err(ProtoError::MaxBufferSizeExceeded);
     }
-    let queries = questions_at(zone.alloc, place, &query.queries)?;
-    let answer = plain(zone.alloc, ResponseCode::NoError, answers.records);
-    Ok(Some((framed(zone.alloc, query, queries, answer), next)))
+    let message = message_with(zone.alloc, query, place, answers.records)?;
+    Ok(Some((message, next)))
+}
+
+/// The message of a transfer from a place on that has these answers.
+fn message_with(
+    alloc: Global,
+    query: &Message,
+    place: &TransferPlace,
+    answers: Vec<Record>,
+) -> Result<Message, AllocError>
+    ensures { IfOk result (λ m. message_value m
+        ≡ transferring (message_value query.now) place.now answers.items) }
+{
+    let queries = questions_at(alloc, place, &query.queries)?;
+    let answer = plain(alloc, ResponseCode::NoError, answers);
+    Ok(framed(alloc, query, queries, answer))
 }

@@ -61,22 +61,10 @@ kin A => Cut kin.example. 1
 ";
 
 #[test]
-fn names_are_found(rt: HostRuntime) -> Result<(), Fail> {
-    let wrong = first_wrong(rt.alloc(), ZONE, Call::Lookup, NAMES)?;
-    assert_eq!(rt; wrong, None);
-    Ok(())
-}
-
-#[test]
-fn wildcards_are_found(rt: HostRuntime) -> Result<(), Fail> {
-    let wrong = first_wrong(rt.alloc(), ZONE, Call::Lookup, WILDCARDS)?;
-    assert_eq!(rt; wrong, None);
-    Ok(())
-}
-
-#[test]
-fn cuts_are_found(rt: HostRuntime) -> Result<(), Fail> {
-    let wrong = first_wrong(rt.alloc(), ZONE, Call::Lookup, CUTS)?;
-    assert_eq!(rt; wrong, None);
+fn sets_are_found(rt: HostRuntime) -> Result<(), Fail> {
+    for rows in [NAMES, WILDCARDS, CUTS] {
+        let wrong = first_wrong(rt.alloc(), ZONE, Call::Lookup, rows)?;
+        assert_eq!(rt; wrong, None);
+    }
     Ok(())
 }

@@ -217,14 +217,6 @@ fn summary_of(alloc: Global, zone: &str, query: &[u8], most: usize) -> Result<Su
     transfer_summary(alloc, &origin, &sets, &query, most)
 }
 
-#[test]
-fn a_small_zone_is_one_message(rt: HostRuntime) -> Result<(), Fail> {
-    let summary = summary_of(rt.alloc(), ZONE, QUERY, 3)?;
-    assert_eq!(rt; summary.messages, 1);
-    assert!(rt; summary.is_right);
-    Ok(())
-}
-
 /// The text of a zone of an origin: a set of so many addresses, and as many names.
 fn wide_text(alloc: Global, origin: &str, count: u32) -> Result<String, Fail> {
     let mut text = format!(in alloc; "$ORIGIN {origin}\n$TTL 3600\n")?;
@@ -252,27 +244,22 @@ fn messages_of(
     Ok((summary.is_right && summary.is_whole).then_some(summary.messages))
 }
 
-#[test]
-fn a_large_set_goes_over_messages(rt: HostRuntime) -> Result<(), Fail> {
-    let messages = messages_of(rt.alloc(), "example.", 4000, QUERY)?;
-    assert_eq!(rt; messages, Some(4));
-    Ok(())
-}
+/// Large zones: an origin, how many addresses and names it has, the query, and how many messages there are.
+const LARGE: &[(&str, u32, &[u8], usize)] = &[
+    ("example.", 4000, QUERY, 4),
+    // 145,604 bytes of records, of which three messages hold 65,535 each: the second goes on at a name, the third
+    // within the set
+    (LONG_ORIGIN, 1200, LONG_QUERY, 3),
+    // 65,387 bytes of records, which leave no room for the 157 of the last SOA
+    (LONG_ORIGIN, 540, LONG_QUERY, 2),
+];
 
-/// 145,604 bytes of records, of which three messages hold 65,535 each: the second goes on at a name, the third within
-/// the set.
 #[test]
-fn long_names_go_over_messages(rt: HostRuntime) -> Result<(), Fail> {
-    let messages = messages_of(rt.alloc(), LONG_ORIGIN, 1200, LONG_QUERY)?;
-    assert_eq!(rt; messages, Some(3));
-    Ok(())
-}
-
-/// 65,387 bytes of records, which leave no room for the 157 of the last SOA.
-#[test]
-fn the_last_soa_goes_alone(rt: HostRuntime) -> Result<(), Fail> {
-    let messages = messages_of(rt.alloc(), LONG_ORIGIN, 540, LONG_QUERY)?;
-    assert_eq!(rt; messages, Some(2));
+fn large_zones_go_over_messages(rt: HostRuntime) -> Result<(), Fail> {
+    for &(origin, count, query, wanted) in LARGE {
+        let messages = messages_of(rt.alloc(), origin, count, query)?;
+        assert_eq!(rt; messages, Some(wanted));
+    }
     Ok(())
 }
 
@@ -284,19 +271,16 @@ fn code_of(alloc: Global, zone: &str, query: &[u8]) -> Result<Option<u16>, Fail>
     Ok(is_refusal.then_some(code))
 }
 
+/// A zone without SOA, which isn't transferred.
+const WITHOUT_SOA: &str = "$ORIGIN example.\n$TTL 3600\nwww A 192.0.2.1\n";
+
 #[test]
-fn other_queries_are_refused(rt: HostRuntime) -> Result<(), Fail> {
+fn other_queries_and_zones_are_refused(rt: HostRuntime) -> Result<(), Fail> {
     for row in REFUSED {
         let code = code_of(rt.alloc(), ZONE, row.0)?;
         assert_eq!(rt; code, Some(row.1));
     }
-    Ok(())
-}
-
-#[test]
-fn a_zone_without_soa_is_not_transferred(rt: HostRuntime) -> Result<(), Fail> {
-    let zone = "$ORIGIN example.\n$TTL 3600\nwww A 192.0.2.1\n";
-    let code = code_of(rt.alloc(), zone, QUERY)?;
+    let code = code_of(rt.alloc(), WITHOUT_SOA, QUERY)?;
     assert_eq!(rt; code, Some(2));
     Ok(())
 }
@@ -319,18 +303,22 @@ fn add_empty(sets: &mut BTreeMap<RrKey, RecordSet>) -> Result<(), Fail> {
     Ok(())
 }
 
-/// Whether the transfer of the zone has as many records where each set of addresses has one without data too.
-fn leaves_empty_out(alloc: Global) -> Result<bool, Fail> {
+/// What the transfer of a small zone comes to, and what where each set of addresses has a record without data too.
+fn small_summaries(alloc: Global) -> Result<(Summary, Summary), Fail> {
     let (origin, mut sets) = parsed(alloc, ZONE)?;
     let query = Message::from_vec(alloc, QUERY)?;
-    let before = transfer_summary(alloc, &origin, &sets, &query, 3)?;
+    let plain = transfer_summary(alloc, &origin, &sets, &query, 3)?;
     add_empty(&mut sets)?;
-    let after = transfer_summary(alloc, &origin, &sets, &query, 3)?;
-    Ok(after.is_right && after.records == before.records)
+    let with_empty = transfer_summary(alloc, &origin, &sets, &query, 3)?;
+    Ok((plain, with_empty))
 }
 
 #[test]
-fn records_without_data_are_not_transferred(rt: HostRuntime) -> Result<(), Fail> {
-    assert!(rt; leaves_empty_out(rt.alloc())?);
+fn a_small_zone_is_one_message_without_empty_data(rt: HostRuntime) -> Result<(), Fail> {
+    let (plain, with_empty) = small_summaries(rt.alloc())?;
+    assert_eq!(rt; plain.messages, 1);
+    assert!(rt; plain.is_right);
+    assert!(rt; with_empty.is_right);
+    assert_eq!(rt; with_empty.records, plain.records);
     Ok(())
 }

@@ -2,10 +2,8 @@ use Rattle.authority.proofs.WayLemmas.{IsOnWay, copied_or, way_ends, way_goes_on
 use Rattle.authority.proofs.sets.highest_cut.Goals as goal
 use Rattle.base.specs.names.Labels.{NameValue}
 use Rattle.base.specs.names.Parents.{parent}
-use Rattle.base.specs.RrKey.{key_cmp}
 use Rattle.rr.specs.RecordSet.{SetValue}
 use Rattle.std.proofs.Common.{ap, subst, sym, ◌∙◌}
-use Rattle.std.specs.BTreeMap.{get}
 use Rattle.std.specs.Option.{option_copied}
 use Rattle.std.specs.Prelude.{Option}
 
@@ -15,12 +13,12 @@ loop-end-preserved c =
     let m = c.args.sets.now in
     let n = c.args.name in
     let end = c.loop-end.end in
-    let on = way_goes_on origin m n end (option_copied c.loop-end.highest) (option_copied c.get.result)
+    let on = way_goes_on origin m n end (option_copied c.loop-end.highest) (option_copied c.in_ok-servers.servers)
     (sym c.is_below.ensures ∙ c.loop-end-test.true)
-    (ap (get key_cmp m) (sym c.in_ok-key.ensures) ∙ sym c.get.ensures.value) c.loop-end.invariant in
+    (sym c.in_ok-servers.ensures) c.loop-end.invariant in
     subst (λ (e : NameValue). IsOnWay origin m n e (option_copied c.or-highest.result)) (sym c.in_ok-end.ensures.value)
     (subst (λ (o : Option SetValue). IsOnWay origin m n (parent end) o)
-    (sym (ap option_copied c.or-highest.ensures ∙ copied_or c.get.result c.loop-end.highest)) on)
+    (sym (ap option_copied c.or-highest.ensures ∙ copied_or c.in_ok-servers.servers c.loop-end.highest)) on)
 
 pub returns-clause-value : goal.returns-clause-value
 returns-clause-value c =

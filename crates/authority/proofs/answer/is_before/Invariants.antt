@@ -1,4 +1,4 @@
-use Rattle.authority.proofs.answer.owns.Given as goal
+use Rattle.authority.proofs.answer.is_before.Given as goal
 use Rattle.authority.specs.Answer.{owns}
 use Rattle.std.proofs.Common.{drop, ◌≡◌}
 

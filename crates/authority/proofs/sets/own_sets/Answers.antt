@@ -1,6 +1,6 @@
 use Rattle.authority.proofs.OwnSets.{first_covered, in_lower, none_left, walk_begins, walk_ends, walk_next}
-use Rattle.authority.proofs.sets.at_name.Goals as goal
-use Rattle.authority.proofs.sets.at_name.Goals.{else-own, then-own}
+use Rattle.authority.proofs.sets.own_sets.Goals as goal
+use Rattle.authority.proofs.sets.own_sets.Goals.{else-own, then-own}
 use Rattle.base.specs.names.NameOrder.{same_lower}
 use Rattle.base.specs.names.Parents.{is_within}
 use Rattle.op_use.proofs.OwnerKeys.{owned_entry}
@@ -13,7 +13,7 @@ use Rattle.std.specs.Prelude.{◌||◌}
 
 pub loop-key-init : goal.loop-key-init
 loop-key-init c = (
-  walk_begins c.args.sets.now c.args.name.now c.args.record_type _ c.in_ok-least.least c.in_ok-least.ensures
+  walk_begins c.args.sets.now c.args.name.now c.args.record_type _ c.args.least.now c.requires
       c.range-key-items.ensures.ordered
       (c.into_iter-key-iterator.ensures.into_iter_gives ∙ c.range-key-items.ensures.between tt),
   tt,
@@ -23,7 +23,7 @@ loop-key-init c = (
 pub loop-key-preserved : goal.loop-key-preserved
 loop-key-preserved c =
     let own : is_owned c.args.name.now c.in-Some.key.now ≡ true
-    = ap (λ k. same_lower k.name c.in-Some.key.now.name) (sym c.in_ok-least.ensures)
+    = ap (λ k. same_lower k.name c.in-Some.key.now.name) (sym c.requires)
     ∙ not-false _ (sym c.ne.ensures ∙ c.if-ne.false) in (
       walk_next c.args.sets.now c.args.name.now c.loop-key.key-iterator c.next.new.self c.in-Some.key.now
           c.in-Some.set.now c.in-Some.ensures.steps own c.args.record_type c.loop-key.own (record {
@@ -37,13 +37,13 @@ loop-key-preserved c =
       tt,
     )
 
-pub returns-then-ne-clause-value : goal.returns-then-ne-clause-value
-returns-then-ne-clause-value c =
+pub returns-then-ne : goal.returns-then-ne
+returns-then-ne c =
     let n = c.args.name.now in
     let key = c.in-Some.key.now in
     let it = c.loop-key.key-iterator in
     let other : is_owned n key ≡ false
-    = ap (λ k. same_lower k.name key.name) (sym c.in_ok-least.ensures)
+    = ap (λ k. same_lower k.name key.name) (sym c.requires)
     ∙ not-true _ (sym c.ne.ensures ∙ c.if-ne.true) in
     let there : c.if-own.result ≡ (c.loop-key.own.exists || first_covered n it) = elim c.if-own.branch [
       | then-own w ↦ w.result-is ∙ w.if-own.true ∙ sym (ap (λ b. b || first_covered n it) w.if-own.true)
@@ -55,8 +55,8 @@ returns-then-ne-clause-value c =
     (none_left c.args.sets.now n it c.next.new.self (key, c.in-Some.set.now) c.in-Some.ensures.steps other) there
     c.loop-key.invariant.0
 
-pub returns-clause-value : goal.returns-clause-value
-returns-clause-value c =
+pub returns : goal.returns
+returns c =
     let n = c.args.name.now in
     let own = c.loop-key.own in
     walk_ends c.args.sets.now n c.args.record_type own own.exists c.loop-key.key-iterator

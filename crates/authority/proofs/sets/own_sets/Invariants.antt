@@ -1,5 +1,5 @@
 use Rattle.authority.proofs.OwnSets.{IsWalk}
-use Rattle.authority.proofs.sets.at_name.Given as goal
+use Rattle.authority.proofs.sets.own_sets.Given as goal
 
 -- what was found and what is left are all that the name has
 abbrev pub invariant-loop-key : goal.invariant-loop-key
