@@ -1,6 +1,7 @@
 -- The fronts of names in their order, as numbers.
 use Rattle.std.specs.List.{AllByRecursion}
-use Rattle.std.specs.Prelude.{◌≡◌, ◌≢◌, ◌<◌, ◌+◌, ◌-◌, ◌*◌, ◌/◌, ℕ, true, ◌&&◌, List, [], ◌∷◌, nat_le, reverse, if◌then◌else◌}
+use Rattle.std.specs.Prelude.{◌≡◌, ◌≢◌, ◌<◌, ◌+◌, ◌-◌, ◌*◌, ◌/◌, ℕ, true, ◌&&◌, List, [], ◌∷◌, nat_le, reverse}
+use Rattle.std.specs.Prelude.{if◌then◌else◌}
 use Rattle.base.specs.names.Labels.{NameValue}
 
 -- The digit of a byte, of 64: the bytes from `*` to `9` and from `_` to `z` have one, by their order; 0 for others.

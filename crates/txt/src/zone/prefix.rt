@@ -14,7 +14,7 @@ const BASE: u128 = 64;
 const FIRST: u128 = 1 << 120;
 
 /// A name of more bytes has no prefix, which would cost more than it spares: most of its bytes are looked at in vain.
-const MOST: usize = 40;
+const MOST: usize = 32;
 
 /// The first 21 digits of a name, from its last label on, as a number: a name whose prefix is less comes first
 /// (RFC 4034, 6.1). It is 0 where it isn't known: the name is long or relative, or a byte of it has no digit.

@@ -1,4 +1,5 @@
-use Rattle.std.proofs.Common.{◌≡◌, ◌<◌, ◌∷◌, ◌-◌, ◌+◌, ◌*◌, ◌/◌, [], drop, length, get_or, arith, sym, ap, subst, ◌∙◌, ℕ, List}
+use Rattle.std.proofs.Common.{◌≡◌, ◌<◌, ◌∷◌, ◌-◌, ◌+◌, ◌*◌, ◌/◌, [], drop, length, get_or, arith, sym, ap, subst, ◌∙◌}
+use Rattle.std.proofs.Common.{ℕ, List}
 use Rattle.std.proofs.lemmas.List.{drop_all, drop_more}
 use Rattle.txt.specs.Prefix.{FIRST, HaveDigits, digit, led}
 use Rattle.txt.proofs.PrefixLemmas.{one_more, digit_few}
