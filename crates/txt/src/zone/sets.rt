@@ -221,12 +221,7 @@ fn take_last(run: &mut Run, key: &RrKey) -> Option<RecordSet>
     ensures none { IfNone result ((run.new ≡ run.old)
         × AllByRecursion (λ e. key_cmp key.now e.0 ≡ Greater) run.old) }
 {
-    let last = &run.last()?.0;
-    // Most keys have another name, which this tells sooner than their order.
-    if !key.name.as_name().eq_case(last.name.as_name()) {
-        return None;
-    }
-    if key.cmp(last).is_ne() {
+    if *key != run.last()?.0 {
         return None;
     }
     let (_, set) = run.pop()?;
