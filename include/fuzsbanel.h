@@ -156,6 +156,12 @@ int64_t fuzsbanel_response(const uint8_t *message, size_t len, struct fuzsbanel_
 int64_t fuzsbanel_build_query(uint16_t id, const uint8_t *name, size_t name_len, uint16_t record_type, uint16_t class_,
                               bool recursion, uint16_t payload, uint8_t *out, size_t cap, size_t *needed);
 
+/* Writes the NOTIFY that tells a secondary that the SOA of the zone `origin` may have changed: AA is set, and the question is
+ * that SOA, of the class IN (RFC 1996, 3). A secondary that heard it answers with its id and operation, 4, and QR. Refuses as
+ * fuzsbanel_build_query does. */
+int64_t fuzsbanel_build_notify(uint16_t id, const uint8_t *origin, size_t origin_len, uint8_t *out, size_t cap,
+                               size_t *needed);
+
 /* Writes the response to the query that `query` begins with, with this response code, AA and RA: it has the query's id,
  * operation, RD and CD, its questions, and where it has EDNS, EDNS of version 0 and 512 bytes with its DO (RFC 6895, 2; RFC
  * 6891, 6.1.1; RFC 3225, 3). The records of its sections are those of three zone texts, read as fuzsbanel_zone reads one

@@ -1,5 +1,5 @@
-/* Asks, listens and answers: prints the query for a name, what a response to it says, as a resolver wants to know, and the
- * response that a server builds, a name and data in wire form, and mnemonics. */
+/* Asks, listens and answers: prints the query for a name, what a response to it says, as a resolver wants to know, the NOTIFY
+ * and the response that a server builds, a name and data in wire form, and mnemonics. */
 #include "fuzsbanel.h"
 
 #include <inttypes.h>
@@ -60,6 +60,9 @@ int main(void)
     if (!print_bytes(query, len))
         return 1;
     print_response(query, (size_t)len);
+    int64_t notify_len = fuzsbanel_build_notify(9, TEXT("example"), reply, sizeof reply, &needed);
+    if (!print_bytes(reply, notify_len))
+        return 1;
     print_response(denied, sizeof denied - 1);
     int64_t reply_len =
         fuzsbanel_build_response(query, (size_t)len, (uint16_t)code, true, false, TEXT(""),

@@ -24,7 +24,7 @@ struct asked {
 static struct fuzsbanel_item items[ITEMS];
 static uint8_t names[ITEMS * LONGEST_NAME], made[MOST];
 
-void set_operation(uint8_t *message, uint8_t operation)
+static void set_operation(uint8_t *message, uint8_t operation)
 {
     message[2] = (uint8_t)((message[2] & 0x87) | operation << 3);
 }

@@ -18,9 +18,6 @@ struct rights {
     bool by_stream, may_update, may_transfer;
 };
 
-/* Puts another operation into a header. */
-void set_operation(uint8_t *message, uint8_t operation);
-
 /* Carries out what a message asks, and makes what is sent for it: one message or, of a transfer, several, all of one zone.
  * False where nothing is sent: for what isn't meant for a server, and where the library refuses. The message is changed. */
 bool respond(struct held_zone *held, uint8_t *message, size_t len, struct rights rights, struct frames *frames);

@@ -6,8 +6,6 @@
 #include <stdlib.h>
 #include <string.h>
 
-/* a text, as a pointer and a length */
-#define TEXT(text) (const uint8_t *)(text), strlen(text)
 /* how many bytes the five numbers of an SOA have */
 enum { NUMBERS = 20 };
 
@@ -121,7 +119,7 @@ void held_open(struct held_zone *held, const char *path, const char *origin, con
     struct sha256 hash;
     uint8_t digest[SHA256_BYTES];
     size_t len, needed;
-    *held = (struct held_zone){0};
+    *held = (struct held_zone){.origin = origin};
     uint8_t *text = text_of(path, &len);
     int64_t answer = fuzsbanel_build_query(0, TEXT(origin), TYPE_SOA, CLASS_IN, false, 0, held->asking, ASKING, &needed);
     if (answer >= 0) {

@@ -5,15 +5,20 @@
 #include "fuzsbanel.h"
 #include "journal.h"
 
+#include <string.h>
+
 /* codes of RFC 1035, 4.1.1, and of RFC 2136, 2.2 */
 enum { NO_ERROR = 0, FORM_ERR = 1, SERV_FAIL = 2, NOT_IMP = 4, REFUSED = 5, NOT_AUTH = 9 };
 /* how many bytes a header has, and a name at most, and a query for the zone's SOA */
 enum { HEADER = 12, LONGEST_NAME = 255, ASKING = HEADER + LONGEST_NAME + 4 };
 enum { TYPE_SOA = 6, CLASS_IN = 1 };
+/* a text, as a pointer and a length */
+#define TEXT(text) (const uint8_t *)(text), strlen(text)
 
 struct held_zone {
     struct fuzsbanel_zone_handle zone;
     struct journal journal;
+    const char *origin;
     uint32_t serial;
     uint8_t asking[ASKING]; /* the query for the SOA */
     size_t asking_len;

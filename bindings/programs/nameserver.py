@@ -106,8 +106,8 @@ class HeldZone:
             text = file.read()
         try:
             # what a query has after its header is the name in wire form, the type and the class
-            self.asking = fuzsbanel.build_query(0, origin, SOA, recursion=False)
-            self.name = self.asking[HEADER:-4].lower()
+            self._asking = fuzsbanel.build_query(0, origin, SOA, recursion=False)
+            self.name = self._asking[HEADER:-4].lower()
             # a last line without an end would be passed over, if it is no record
             self.zone = fuzsbanel.Zone(origin, text.decode() + "\n")
             self.serial = self._serial()
@@ -126,7 +126,7 @@ class HeldZone:
         return fault and f"line {fault.line}, column {fault.column}: {fault.words}"
 
     def _serial(self) -> int:
-        for record in fuzsbanel.records(self.zone.answer(self.asking)):
+        for record in fuzsbanel.records(self.zone.answer(self._asking)):
             if record.section == ANSWER:
                 return serial_of(record)
         raise ValueError("the zone has no SOA")
@@ -177,8 +177,8 @@ class HeldZone:
 class Secondary:
     """A secondary, which is told of changes by NOTIFY until it says that it heard (RFC 1996, 3)."""
 
-    def __init__(self, address: Address, port: int, source: Address, asking: bytes) -> None:
-        self._asking = with_operation(asking[:2] + b"\4" + asking[3:], NOTIFY)
+    def __init__(self, address: Address, port: int, source: Address, origin: str) -> None:
+        self._origin = origin
         self._id, self._tries, self._told = 0, 0, 0.0
         self.due: Optional[float] = None
         self.sock = socket.socket(socket.AF_INET if address.version == 4 else socket.AF_INET6, socket.SOCK_DGRAM)
@@ -197,8 +197,8 @@ class Secondary:
         self.due = self._told + AGAIN * 2 ** self._tries if self._tries < TRIES - 1 else None
         self._tries += 1
         try:
-            self.sock.send(struct.pack("!H", self._id) + self._asking[2:])
-        except OSError:
+            self.sock.send(fuzsbanel.build_notify(self._id, self._origin))
+        except (OSError, fuzsbanel.Refusal):
             pass
 
     def hear(self) -> None:
@@ -449,7 +449,7 @@ def main() -> None:
     given = words.parse_args()
     try:
         held = HeldZone(given.zone_file, given.origin, given.journal)
-        secondaries = [Secondary(*it, given.address, held.asking) for it in given.notify]
+        secondaries = [Secondary(*it, given.address, given.origin) for it in given.notify]
         server = Server(held, given.address, given.port, set(given.update_from), set(given.transfer_to), secondaries)
         warn(f"{given.origin} with serial {held.serial} at {given.address} port {server.port}")
         server.run()

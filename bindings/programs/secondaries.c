@@ -35,14 +35,13 @@ void secondary_tell(struct secondary *it)
 void secondary_send(struct secondary *it, const struct held_zone *held)
 {
     uint8_t message[ASKING];
-    memcpy(message, held->asking, held->asking_len);
-    put_two(message, it->id);
-    message[2] = 4; /* AA */
-    set_operation(message, NOTIFY);
+    size_t needed;
+    int64_t len = fuzsbanel_build_notify(it->id, TEXT(held->origin), message, sizeof message, &needed);
     it->told = now();
     it->due = it->tries < TRIES - 1 ? it->told + ((int64_t)AGAIN << it->tries) : NEVER;
     it->tries++;
-    (void)send(it->file, message, held->asking_len, 0); /* what is lost is told again, as of what the network loses */
+    if (len >= 0)
+        (void)send(it->file, message, (size_t)len, 0); /* what is lost is told again, as of what the network loses */
 }
 
 void secondary_hear(struct secondary *it)

@@ -140,6 +140,7 @@ CALLS = {
     "header": BYTES + [ctypes.POINTER(HeaderFields)],
     "response": BYTES + [ctypes.POINTER(ResponseFields)],
     "build_query": U16 + BYTES + U16 + U16 + [ctypes.c_bool] + U16 + OUT,
+    "build_notify": U16 + BYTES + OUT,
     "build_response": BYTES + U16 + [ctypes.c_bool] * 2 + BYTES * 3 + U16 + [ctypes.c_bool] + OUT,
     "type_number": BYTES,
     "type_text": U16 + OUT,

@@ -121,6 +121,16 @@ def build_query(id_: int, name_text: str, record_type: int, class_: int = 1, rec
     return filled(512, "build_query", id_, name_text, record_type, class_, recursion, payload)
 
 
+def build_notify(id_: int, origin: str) -> bytes:
+    """The NOTIFY by which a server tells a secondary that the SOA of a zone may have changed (RFC 1996, 3). The secondary
+    sends it back as a response with its id.
+
+    >>> build_notify(9, "example").hex()
+    '000924000001000000000000076578616d706c650000060001'
+    """
+    return filled(512, "build_notify", id_, origin)
+
+
 def build_response(query: bytes, code: int = 0, *, authoritative: bool = False, recursion_available: bool = False,
                    answers: str = "", authorities: str = "", additionals: str = "", most: Optional[int] = None) -> bytes:
     """The response to a query, with a response code and the records of zone texts, names ending in the root: of those of a

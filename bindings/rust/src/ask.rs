@@ -1,4 +1,4 @@
-//! Queries, responses to them, and what a response says (RFC 1035, 4.1; RFC 2308, 5).
+//! Queries, NOTIFY, responses to queries, and what a response says (RFC 1035, 4.1; RFC 1996; RFC 2308, 5).
 
 use crate::calls::{self, filled};
 use crate::error::Error;
@@ -70,6 +70,21 @@ pub fn build_query(
                 cap,
                 needed,
             )
+        }
+    })
+}
+
+/// The NOTIFY by which a server tells a secondary that the SOA of a zone may have changed (RFC 1996, 3). The secondary sends
+/// it back as a response with its id.
+///
+/// # Errors
+///
+/// [`Error::NoOrigin`] for an origin without bytes, and [`Error::BadText`] for a text that is no name.
+pub fn build_notify(id: u16, origin: &str) -> Result<Vec<u8>, Error> {
+    filled(512, |out, cap, needed| {
+        // SAFETY: `filled` hands in a buffer of its own, and the origin is borrowed for the call.
+        unsafe {
+            calls::fuzsbanel_build_notify(id, origin.as_ptr(), origin.len(), out, cap, needed)
         }
     })
 }

@@ -76,6 +76,14 @@ extern "C" {
         cap: usize,
         needed: *mut usize,
     ) -> i64;
+    pub fn fuzsbanel_build_notify(
+        id: u16,
+        origin: *const u8,
+        origin_len: usize,
+        out: *mut u8,
+        cap: usize,
+        needed: *mut usize,
+    ) -> i64;
     pub fn fuzsbanel_build_response(
         query: *const u8,
         query_len: usize,

@@ -22,7 +22,7 @@ mod update;
 mod walk;
 mod wire_form;
 
-pub use ask::{build_query, build_response, response, Reply, Response};
+pub use ask::{build_notify, build_query, build_response, response, Reply, Response};
 pub use error::Error;
 pub use held::{Transfer, Zone};
 pub use mnemonic::{

@@ -403,6 +403,13 @@ fn queries_are_built() {
 }
 
 #[test]
+fn notify_is_built() {
+    let notify = b"\0\x09\x24\0\0\x01\0\0\0\0\0\0\x07example\0\0\x06\0\x01";
+    assert_eq!(fuzsbanel::build_notify(9, "example"), Ok(notify.to_vec()));
+    assert_eq!(fuzsbanel::build_notify(9, ""), Err(Error::NoOrigin));
+}
+
+#[test]
 fn responses_say_whether_they_answer() {
     // NXDomain for www.example., and the SOA with a TTL of 60 and a MINIMUM of 5
     let denied = b"\0\x09\x81\x03\0\x01\0\0\0\x01\0\0\x03www\x07example\0\0\x01\0\x01\

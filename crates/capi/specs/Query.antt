@@ -1,7 +1,9 @@
--- The queries that are built.
-use Rattle.std.specs.Prelude.{ℕ, ◌==◌, ◌∷◌, List, [], None, Option, Some, if◌then◌else◌, false, max}
+-- The queries and the NOTIFY that are built.
+use Rattle.std.specs.Prelude.{ℕ, ◌==◌, ◌∷◌, List, [], None, Option, Some, if◌then◌else◌, false, max, true}
 use Rattle.base.specs.DNSClass.{class_of}
 use Rattle.base.specs.RecordType.{type_of}
+use Rattle.base.specs.declared.dns_class.DNSClass.TheVariants as classes
+use Rattle.base.specs.declared.record_type.RecordType.TheVariants as record_types
 use Rattle.base.specs.declared.limits.TheConstants.{MAX_MESSAGE, MIN_PAYLOAD}
 use Rattle.base.specs.names.Labels.{NameValue}
 use Rattle.op.specs.Edns.{new_edns}
@@ -37,3 +39,20 @@ query_of q name = record (empty_message (record (plain_metadata q.id types.Query
 -- what is written of the query for the name of a text
 abbrev pub query_sent : List ℕ → Question → Asked (List ℕ)
 query_sent text q = zone_name_of text >>= λ name. written (message_answer MAX_MESSAGE (query_of q name))
+
+-- the NOTIFY for a zone (RFC 1996, 3)
+abbrev pub notify_of : ℕ → NameValue → MessageValue
+notify_of id zone = record (empty_message (record (plain_metadata id types.Query operations.Notify) {
+  authoritative = true;
+})) {
+  queries = record {
+    name = zone;
+    query_type = record_types.SOA;
+    query_class = classes.IN;
+    mdns_unicast_response = false;
+  } ∷ [];
+}
+
+-- what is written of the NOTIFY for the zone that a text names
+abbrev pub notify_sent : ℕ → List ℕ → Asked (List ℕ)
+notify_sent id text = zone_name_of text >>= λ zone. written (message_answer MAX_MESSAGE (notify_of id zone))

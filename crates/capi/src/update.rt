@@ -37,7 +37,7 @@ pub extern "C" fn fuzsbanel_create(
         out.old out.new needed.new result }
 {
     let change = Change::Create(set);
-    give(update(alloc, id, origin, change, use_edns), out, needed)
+    give_update(alloc, id, origin, change, use_edns, out, needed)
 }
 
 /// Writes the update that adds the records of a set into the caller's buffer; with `must_exist` its prerequisite is
@@ -61,7 +61,7 @@ pub extern "C" fn fuzsbanel_append(
         out.old out.new needed.new result }
 {
     let change = Change::Append(set, must_exist);
-    give(update(alloc, id, origin, change, use_edns), out, needed)
+    give_update(alloc, id, origin, change, use_edns, out, needed)
 }
 
 /// Writes the update that puts a set in the place of another into the caller's buffer: its prerequisite is the data of
@@ -85,7 +85,7 @@ pub extern "C" fn fuzsbanel_compare_and_swap(
         out.old out.new needed.new result }
 {
     let change = Change::CompareAndSwap(current, next);
-    give(update(alloc, id, origin, change, use_edns), out, needed)
+    give_update(alloc, id, origin, change, use_edns, out, needed)
 }
 
 /// Writes the update that takes the data of a set out of the zone into the caller's buffer (RFC 2136, 2.5.4).
@@ -107,7 +107,7 @@ pub extern "C" fn fuzsbanel_delete_by_rdata(
         out.old out.new needed.new result }
 {
     let change = Change::DeleteByRdata(set);
-    give(update(alloc, id, origin, change, use_edns), out, needed)
+    give_update(alloc, id, origin, change, use_edns, out, needed)
 }
 
 /// Writes the update that takes the set of an owner and a type out of the zone into the caller's buffer (RFC 2136,
@@ -132,7 +132,7 @@ pub extern "C" fn fuzsbanel_delete_rrset(
         out.old out.new needed.new result }
 {
     let change = Change::DeleteRrset(owner, record_type);
-    give(update(alloc, id, origin, change, use_edns), out, needed)
+    give_update(alloc, id, origin, change, use_edns, out, needed)
 }
 
 /// Writes the update that takes all sets of an owner out of the zone into the caller's buffer; at the origin SOA and NS
@@ -155,7 +155,7 @@ pub extern "C" fn fuzsbanel_delete_all(
         out.old out.new needed.new result }
 {
     let change = Change::DeleteAll(owner);
-    give(update(alloc, id, origin, change, use_edns), out, needed)
+    give_update(alloc, id, origin, change, use_edns, out, needed)
 }
 
 /// Writes the question for all of a zone into the caller's buffer (RFC 5936, 2.1), or for what changed since an SOA
@@ -178,4 +178,20 @@ pub extern "C" fn fuzsbanel_zone_transfer(
         out.old out.new needed.new result }
 {
     give(transfer(alloc, id, origin, last_soa), out, needed)
+}
+
+/// Writes the update of a zone that a change asks for into the caller's buffer.
+fn give_update(
+    alloc: Global,
+    id: u16,
+    origin: &[u8],
+    change: Change,
+    use_edns: bool,
+    out: &mut [u8],
+    needed: &mut usize,
+) -> i64
+    ensures { IsUpdateAnswered id use_edns origin.now change.entry
+        out.old out.new needed.new result }
+{
+    give(update(alloc, id, origin, change, use_edns), out, needed)
 }

@@ -1,6 +1,6 @@
-//! Queries that are built, and what a response says.
+//! Queries and NOTIFY that are built, and what a response says.
 
-use crate::query::fuzsbanel_build_query;
+use crate::query::{fuzsbanel_build_notify, fuzsbanel_build_query};
 use crate::response::{ResponseFacts, fuzsbanel_response};
 
 const QUERY: &[u8] = b"\0\x09\x01\0\0\x01\0\0\0\0\0\0\x03www\x07example\0\0\x01\0\x01";
@@ -76,6 +76,27 @@ fn queries_are_built(rt: HostRuntime) {
         );
         assert!(rt; answer == row.answer && needed == row.query.len());
         assert!(rt; out.starts_with(row.query) && out[row.query.len()] == 7);
+    }
+}
+
+/// The NOTIFY of `example.`: operation 4, AA, and its SOA (RFC 1996, 3).
+const NOTIFY: &[u8] = b"\0\x09\x24\0\0\x01\0\0\0\0\0\0\x07example\0\0\x06\0\x01";
+
+#[test]
+fn secondaries_are_told(rt: HostRuntime) {
+    let rows: &[(&[u8], i64, &[u8])] = &[
+        (b"example", 25, NOTIFY),
+        (b"example.", 25, NOTIFY),
+        (b"", -26, b""),
+        (b"a..b", -23, b""),
+        (b"\xff", -24, b""),
+    ];
+    for &(origin, wanted, message) in rows {
+        let mut out = [7; 64];
+        let mut needed = 9;
+        let answer = fuzsbanel_build_notify(rt.alloc(), 9, origin, &mut out, &mut needed);
+        assert!(rt; answer == wanted && needed == message.len());
+        assert!(rt; out.starts_with(message) && out[message.len()] == 7);
     }
 }
 
