@@ -1,6 +1,10 @@
 -- How a handle holds its zone.
 use Rattle.std.specs.Arc.{arc_value}
-use Rattle.std.specs.Prelude.{Bool, None, Option, Some, false, true, ◌≡◌}
+use Rattle.std.specs.declared.sync.Arc.{Arc}
+use Rattle.std.specs.Prelude.{Bool, Err, None, Ok, Option, Result, Some, false, true, ◌≡◌}
+use Rattle.std.specs.declared.alloc.Global.{Global}
+use Rattle.capi.specs.Refusals.{closed}
+use Rattle.capi.specs.declared.refusal.Refusal.{Refusal}
 use Rattle.capi.specs.declared.zone_handle.held.HeldZone.{HeldZone}
 use Rattle.capi.specs.declared.zone_handle.holding.Holding.{Holding}
 use Rattle.capi.specs.declared.zone_handle.holding.Holding.TheVariants as holdings
@@ -26,3 +30,10 @@ zone_held (Some holding) = zone_in holding
 abbrev pub IsShared : Option Holding → Type 0
 IsShared None = ⊥
 IsShared (Some holding) = is_shared holding ≡ true
+
+-- What another handle is to hold is this zone, if there is one; or memory ran out.
+abbrev pub Shares : Option HeldZone → Result (Arc HeldZone Global) Refusal → Type 0
+Shares None (Ok shared) = ⊥
+Shares None (Err refusal) = refusal.number ≡ closed
+Shares (Some zone) (Ok shared) = arc_value shared ≡ zone
+Shares (Some zone) (Err refusal) = refusal.number ≡ 3

@@ -186,11 +186,11 @@ pub extern "C" fn fuzsbanel_zone_share(
             let shared = holding.share(alloc);
             put(handle, holding);
             match shared {
-                Ok(shared) => open_at(alloc, other, shared),
-                Err(e) => refusal_code(e.into()),
+                Ok(shared) => open_at(alloc, other, Holding::Shared(shared)),
+                Err(refusal) => refusal_code(refusal),
             }
         }
-        None => number(Err(Refusal::CLOSED)),
+        None => refusal_code(Refusal::CLOSED),
     }
 }
 
@@ -211,7 +211,7 @@ fn update_held(alloc: Global, holding: &mut Holding, update: &[u8]) -> i64
     }
     match holding {
         Holding::Own(zone) => update_zone(alloc, zone, update),
-        _ => refusal_code(Refusal::CLOSED),
+        Holding::Shared(_) | Holding::Empty => refusal_code(Refusal::CLOSED),
     }
 }
 
@@ -224,7 +224,7 @@ fn raise_held(alloc: Global, holding: &mut Holding) -> i64
     }
     match holding {
         Holding::Own(zone) => raise_serial_of(alloc, zone),
-        _ => refusal_code(Refusal::CLOSED),
+        Holding::Shared(_) | Holding::Empty => refusal_code(Refusal::CLOSED),
     }
 }
 

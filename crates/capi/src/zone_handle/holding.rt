@@ -1,10 +1,11 @@
 //! How a handle holds its zone: alone, or with other handles.
 
-ghost use Rattle.capi.specs.Holding.{is_shared, zone_in};
+ghost use Rattle.capi.specs.Holding.{Shares, is_shared, zone_in};
 ghost use Rattle.capi.specs.ZoneHandle.{parts_in, parts_of};
 ghost use Rattle.std.specs.Option.{option_copied};
 ghost use Rattle.std.specs.Prelude.{◌≡◌, IfOk, OnErr, OnOk, false, true};
 
+use crate::refusal::Refusal;
 use crate::zone_handle::held::HeldZone;
 use std::alloc::{AllocError, Global};
 use std::mem;
@@ -59,14 +60,14 @@ impl Holding {
         Ok(())
     }
 
-    /// What another handle holds that shares the zone.
+    /// The zone, for another handle to hold too.
     ///
     /// # Errors
     ///
-    /// If memory runs out.
-    pub fn share(&mut self, alloc: Global) -> Result<Holding, AllocError>
+    /// 34 where there is none.
+    pub fn share(&mut self, alloc: Global) -> Result<Arc<HeldZone, Global>, Refusal>
         ensures kept { zone_in self.new ≡ zone_in self.old }
-        ensures shared { IfOk result (λ other. zone_in other ≡ zone_in self.old) }
+        ensures shared { Shares (zone_in self.old) result }
     {
         let shared = match mem::replace(self, Holding::Empty) {
             Holding::Shared(shared) => shared,
@@ -74,14 +75,14 @@ impl Holding {
                 Ok(shared) => shared,
                 Err(refused) => {
                     *self = Holding::Own(refused.value);
-                    return Err(AllocError);
+                    return Err(AllocError.into());
                 }
             },
-            Holding::Empty => return Ok(Holding::Empty),
+            Holding::Empty => return Err(Refusal::CLOSED),
         };
         let other = Arc::try_clone(&shared);
         *self = Holding::Shared(shared);
-        Ok(Holding::Shared(other?))
+        Ok(other?)
     }
 }
 
