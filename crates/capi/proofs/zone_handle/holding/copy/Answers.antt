@@ -12,11 +12,11 @@ invariant_of-result c =
       record_type = c.in_ok-clone-3.ensures.cases.1 i;
     } in
     record {
-  soa_is = soa ∙ c.args.zone.now.soa_is
-      ∙ ap (λ o. key_of o types.SOA) (sym c.in_ok-clone.ensures.cases);
-  kept = map_copied c.args.zone.now.sets c.in_ok-clone-2.field-0
-      (copied c.args.zone.now.sets c.in_ok-clone-2.field-0 c.in_ok-clone-2.ensures.cases) c.args.zone.now.kept;
-}
+      soa_is = soa ∙ c.args.zone.now.soa_is
+          ∙ ap (λ o. key_of o types.SOA) (sym c.in_ok-clone.ensures.cases);
+      kept = map_copied c.args.zone.now.sets c.in_ok-clone-2.field-0
+          (copied c.args.zone.now.sets c.in_ok-clone-2.field-0 c.in_ok-clone-2.ensures.cases) c.args.zone.now.kept;
+    }
 
 pub returns : goal.returns
 returns c = λ i. (
