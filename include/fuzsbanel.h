@@ -366,8 +366,8 @@ int64_t fuzsbanel_zone_answer(struct fuzsbanel_zone_handle *handle, const uint8_
                               uint16_t most, bool by_stream, uint8_t *out, size_t cap, size_t *needed);
 
 /* Raises the serial of the zone's SOA by one, modulo 2^32 (RFC 1982, 3.1), as a server does after an update (RFC 2136, 3.6),
- * and answers the new serial. It takes no memory, and so never refuses with 3. Refuses with 34, and with 35 for a zone that
- * hasn't exactly one record as its SOA. */
+ * and answers the new serial. It takes no memory, and so never refuses with 3, but for a zone that another handle holds too.
+ * Refuses with 34, and with 35 for a zone that hasn't exactly one record as its SOA. */
 int64_t fuzsbanel_zone_raise_serial(struct fuzsbanel_zone_handle *handle);
 
 /* Where the next message of a zone transfer begins. It begins as `struct fuzsbanel_transfer_place place = {0};`, at the
@@ -388,6 +388,13 @@ struct fuzsbanel_transfer_place {
  * as fuzsbanel_check does, with 36 for a place that no call left, and with 32 for a record that no message holds. */
 int64_t fuzsbanel_zone_serve_transfer(struct fuzsbanel_zone_handle *handle, const uint8_t *query, size_t query_len,
                                       struct fuzsbanel_transfer_place *place, uint8_t *out, size_t cap, size_t *needed);
+
+/* Opens `other` at the zone that `handle` holds, and answers 0: both hold it then, and no record is copied; what `other` held
+ * before is freed. Each may go to a thread of its own, and one thread reads by one while another reads or changes by the
+ * other. A handle that changes a zone which another holds too copies it first, and the other keeps it as it was: so an
+ * update then costs what the zone's size does, and the next one what it names. Refuses with 34; `other` then holds what it
+ * held. */
+int64_t fuzsbanel_zone_share(struct fuzsbanel_zone_handle *handle, struct fuzsbanel_zone_handle *other);
 
 /* Closes the handle, and frees what it held. A closed handle stays closed. */
 void fuzsbanel_zone_close(struct fuzsbanel_zone_handle *handle);

@@ -1,5 +1,5 @@
 /* Holds a zone from call to call, as a server does: it is opened at a text, updated where it is, its serial raised, and all of
- * it sent; its text at the end is what it is opened at again. */
+ * it sent; another handle shares it, and keeps it as it was; its text at the end is what it is opened at again. */
 #include "fuzsbanel.h"
 
 #include <inttypes.h>
@@ -91,10 +91,18 @@ int main(void)
         printf("%02x%s", answer[i], i + 1 == len ? "\n" : "");
     printf("serial %" PRId64 "\n", fuzsbanel_zone_raise_serial(&zone));
     transfer(&zone);
-    char *text = text_of(&zone);
-    if (!text)
+    struct fuzsbanel_zone_handle reader = {0};
+    if (fuzsbanel_zone_share(&zone, &reader) != 0)
+        return 1;
+    update(&zone, bytes,
+           fuzsbanel_create(4, TEXT(ORIGIN), TEXT("ftp 60 A 192.0.2.4\n"), false, bytes, sizeof bytes, &needed));
+    char *text = text_of(&zone), *kept = text_of(&reader);
+    if (!text || !kept)
         return 1;
     printf("%s", text);
+    printf("%s\n", strstr(kept, "ftp") ? "shared with its changes" : "shared as it was");
+    free(kept);
+    fuzsbanel_zone_close(&reader);
     int64_t opened = fuzsbanel_zone_open(TEXT(ORIGIN), TEXT(text), &zone); /* what it held is freed */
     char *again = opened == 0 ? text_of(&zone) : NULL;
     printf("%s\n", again && strcmp(text, again) == 0 ? "the same again" : "another zone");

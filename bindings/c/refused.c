@@ -1,5 +1,5 @@
 /* Refuses each growth of a call on a zone that is held, one after the other: the call answers that memory ran out, and the
- * zone is what it was. The library takes memory by the three functions below, in place of those over `malloc`. */
+ * zone is what it was; one that another handle shares stays so there in any case. The library takes memory by the three functions below, in place of those over `malloc`. */
 #include "fuzsbanel.h"
 
 #include <inttypes.h>
@@ -50,7 +50,7 @@ static const char other_zone[] = "@ 60 NS ns.of.a.name.of.more.than.thirty.bytes
 static uint8_t updates[4][512];
 static int64_t lengths[4];
 
-enum call { OPEN, UPDATE, ANSWER, WRITE };
+enum call { OPEN, UPDATE, ANSWER, WRITE, SHARE, UPDATE_SHARED, RAISE_SHARED };
 
 /* the mail hosts of example., which have addresses, with EDNS */
 static const uint8_t query[] = "\0\x09\1\0\0\1\0\0\0\0\0\1\7example\0\0\x0f\0\1\0\0\x29\4\xd0\0\0\0\0\0\0";
@@ -64,18 +64,23 @@ static int64_t text_of(struct fuzsbanel_zone_handle *zone)
     return fuzsbanel_zone_text(zone, (uint8_t *)shown, sizeof shown - 1, &needed);
 }
 
-static int64_t made(enum call call, int i, struct fuzsbanel_zone_handle *zone)
+static int64_t made(enum call call, int i, struct fuzsbanel_zone_handle *zone, struct fuzsbanel_zone_handle *other)
 {
     switch (call) {
     case OPEN:
         return fuzsbanel_zone_open(TEXT(ORIGIN), TEXT(other_zone), zone);
     case UPDATE:
+    case UPDATE_SHARED:
         return fuzsbanel_zone_update(zone, updates[i], (size_t)lengths[i]);
     case ANSWER: {
         uint8_t out[512];
         size_t needed;
         return fuzsbanel_zone_answer(zone, query, sizeof query - 1, 512, false, out, sizeof out, &needed);
     }
+    case SHARE:
+        return fuzsbanel_zone_share(zone, other);
+    case RAISE_SHARED:
+        return fuzsbanel_zone_raise_serial(zone);
     default:
         return text_of(zone);
     }
@@ -86,17 +91,25 @@ static long refused_in_turn(const char *what, enum call call, int i)
 {
     char before[sizeof shown];
     for (long count = 0;; count++) {
-        struct fuzsbanel_zone_handle zone = {0};
+        struct fuzsbanel_zone_handle zone = {0}, other = {0};
         growths = -1;
         if (fuzsbanel_zone_open(TEXT(ORIGIN), TEXT(first_zone), &zone) != 0 || text_of(&zone) < 0)
             exit(1);
         strcpy(before, shown);
+        bool is_shared = call == UPDATE_SHARED || call == RAISE_SHARED;
+        if (is_shared && fuzsbanel_zone_share(&zone, &other) != 0)
+            exit(1);
         growths = count;
-        int64_t answer = made(call, i, &zone);
+        int64_t answer = made(call, i, &zone, &other);
         growths = -1;
         int64_t after = text_of(&zone);
         bool is_same = strcmp(before, shown) == 0;
         fuzsbanel_zone_close(&zone);
+        if (is_shared && (text_of(&other) < 0 || strcmp(before, shown) != 0)) {
+            printf("%s, growth %ld: what is shared is another zone\n", what, count);
+            exit(1);
+        }
+        fuzsbanel_zone_close(&other);
         if (answer >= 0)
             return count;
         if (answer != -FUZSBANEL_MEMORY || after < 0 || !is_same) {
@@ -118,10 +131,11 @@ int main(void)
     lengths[3] = fuzsbanel_append(4, TEXT(ORIGIN), TEXT("a.long.label.that.has.its.own.memory 9 TXT more"), true, false,
                                   updates[3], sizeof updates[3], &needed);
     long sum = refused_in_turn("open", OPEN, 0) + refused_in_turn("text", WRITE, 0) + refused_in_turn("answer", ANSWER, 0);
+    sum += refused_in_turn("share", SHARE, 0) + refused_in_turn("raised serial of a shared zone", RAISE_SHARED, 0);
     for (int i = 0; i < 4; i++) {
         if (lengths[i] < 0)
             return 1;
-        sum += refused_in_turn("update", UPDATE, i);
+        sum += refused_in_turn("update", UPDATE, i) + refused_in_turn("update of a shared zone", UPDATE_SHARED, i);
     }
     printf("%ld growths refused\n", sum);
     return sum < 80;

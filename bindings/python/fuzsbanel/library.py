@@ -165,6 +165,7 @@ CALLS = {
     "zone_text": HANDLE + OUT,
     "zone_answer": HANDLE + BYTES + U16 + [ctypes.c_bool] + OUT,
     "zone_raise_serial": HANDLE,
+    "zone_share": HANDLE * 2,
     "zone_serve_transfer": HANDLE + BYTES + [ctypes.POINTER(TransferPlace)] + OUT,
     "create": U16 + BYTES + BYTES + EDNS + OUT,
     "append": U16 + BYTES + BYTES + [ctypes.c_bool] + EDNS + OUT,

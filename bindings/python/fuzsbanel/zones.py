@@ -82,6 +82,9 @@ class Zone:
     ...     [[data_text(message, found.name) for found in records(message) if found.section == 1] for message in transferred]
     (0, 1)
     [['ns.example. hostmaster.example. 1 2 3 4 5', '192.0.2.2', 'ns.example. hostmaster.example. 1 2 3 4 5']]
+    >>> with Zone("example.", "@ 300 SOA ns hostmaster 1 2 3 4 5") as held, held.share() as reader:
+    ...     held.update(create(1, "example.", www)), "www" in held.text(), "www" in reader.text()
+    (0, True, False)
     >>> held.close()
     >>> held.text()
     Traceback (most recent call last):
@@ -115,6 +118,15 @@ class Zone:
         answers the new one. It takes no memory of the library's."""
         with self._lock:
             return asked("zone_raise_serial", ctypes.byref(self._handle))
+
+    def share(self) -> "Zone":
+        """The same zone once more, for another thread to read: no record is copied until one of both is changed, and the other
+        stays as it was then. Each has a lock of its own."""
+        other = Zone.__new__(Zone)
+        other._handle, other._lock = ZoneHandle(), threading.Lock()
+        with self._lock:
+            asked("zone_share", ctypes.byref(self._handle), ctypes.byref(other._handle))
+        return other
 
     def transfer(self, query: bytes) -> Iterator[bytes]:
         """The messages of the zone transfer that a query of type AXFR asks for, one after the other (RFC 5936, 2.2), each for

@@ -248,6 +248,7 @@ extern "C" {
         cap: usize,
         needed: *mut usize,
     ) -> i64;
+    pub fn fuzsbanel_zone_share(handle: *mut ZoneHandle, other: *mut ZoneHandle) -> i64;
     pub fn fuzsbanel_zone_close(handle: *mut ZoneHandle);
     pub fn fuzsbanel_create(
         id: u16,

@@ -29,8 +29,17 @@ pub struct Zone {
     handle: ZoneHandle,
 }
 
-// SAFETY: what an open handle holds is memory of `malloc`'s that nothing else points to, and any thread may free that.
+// SAFETY: what an open handle holds is memory of `malloc`'s that nothing else points to but handles that share the zone; these
+// only read what they share, and count themselves by atomic steps. Any thread may free it.
 unsafe impl Send for Zone {}
+
+/// A handle as it begins.
+fn closed() -> ZoneHandle {
+    ZoneHandle {
+        at: ptr::null_mut(),
+        is_open: false,
+    }
+}
 
 impl Zone {
     /// The zone of an origin, whose records are those of a text.
@@ -40,10 +49,7 @@ impl Zone {
     /// The text's first fault; [`Error::NoOrigin`] for an empty origin, [`Error::NotOnWire`] for a relative name in data,
     /// and [`Error::Class`] for a zone of another class than IN.
     pub fn open(origin: &str, text: &str) -> Result<Zone, Error> {
-        let mut handle = ZoneHandle {
-            at: ptr::null_mut(),
-            is_open: false,
-        };
+        let mut handle = closed();
         // SAFETY: the handle begins closed, and the texts are borrowed for the call.
         let answer = unsafe {
             calls::fuzsbanel_zone_open(
@@ -103,7 +109,7 @@ impl Zone {
     }
 
     /// Raises the serial of the zone's SOA by one, modulo 2^32, as a server does after an update (RFC 1982, 3.1; RFC 2136,
-    /// 3.6), and answers the new one. It takes no memory.
+    /// 3.6), and answers the new one. It takes no memory, but for a zone that is shared, which is copied first.
     ///
     /// # Errors
     ///
@@ -113,6 +119,30 @@ impl Zone {
         let answer = unsafe { calls::fuzsbanel_zone_raise_serial(&mut self.handle) };
         // A serial has thirty-two bits.
         calls::length(answer).map(|serial| serial as u32)
+    }
+
+    /// The same zone once more, for another thread to read: no record is copied until one of both is changed, and the other
+    /// stays as it was then.
+    ///
+    /// ```
+    /// let mut zone = fuzsbanel::Zone::open("example.", "@ 300 SOA ns hostmaster 1 2 3 4 5")?;
+    /// let mut reader = zone.share()?;
+    /// let before = reader.text()?;
+    /// assert_eq!(zone.raise_serial(), Ok(2));
+    /// let after = std::thread::spawn(move || reader.text()).join().unwrap()?;
+    /// assert_eq!(before, after);
+    /// # Ok::<(), fuzsbanel::Error>(())
+    /// ```
+    ///
+    /// # Errors
+    ///
+    /// That memory ran out.
+    pub fn share(&mut self) -> Result<Zone, Error> {
+        let mut handle = closed();
+        // SAFETY: as in `update`, and the other handle begins closed.
+        let answer = unsafe { calls::fuzsbanel_zone_share(&mut self.handle, &mut handle) };
+        calls::length(answer)?;
+        Ok(Zone { handle })
     }
 
     /// The messages of the zone transfer that a query of type AXFR asks for, one after the other (RFC 5936, 2.2), each for a

@@ -22,8 +22,8 @@ use denote.Struct.Struct.{within}
 use denote.Struct.Owning.{shape}
 use Rattle.std_alloc.specs.Box.Ownership.{box_owns}
 use Rattle.capi.specs.Held.{held, token}
-use Rattle.capi.specs.declared.zone_handle.held.HeldZone.{HeldZone}
-use Rattle.capi.specs.contracts.zone_handle.held.HeldZone as zone
+use Rattle.capi.specs.declared.zone_handle.holding.Holding.{Holding}
+use Rattle.capi.specs.contracts.zone_handle.holding.Holding as zone
 use Rattle.capi.specs.contracts.zone_handle.handle.ZoneHandle as handle
 use Rattle.capi.proofs.BoxValues.{both}
 
@@ -34,7 +34,7 @@ module _ {M : Type 1} {𝓤 : Ura M} {𝓛 : Logic 𝓤} {K : Type 0} {Γ : List
   pub never_comes : K → Seq K 𝓛 (‵ ffalse ∷ Γ) G
   never_comes κ = use1 𝓛 (given ⊥ (‵ ftrue)) (never_e 𝓤 _) $ learn κ (λ z. absurd z)
 
-  pub handle_in : K → (p : Ptr) (t : Bool) (z : Option HeldZone)
+  pub handle_in : K → (p : Ptr) (t : Bool) (z : Option Holding)
       → Step K 𝓛 (‵ (Handle.own_val (record { at = p; is_open = t; zone = z }) (both (ptr_val p) (vbool t) ∷ [])) ∷ Γ) G
       (‵ (held t p z) ∷ Γ) G
   handle_in κ p t z = step (λ s. let v : Val = both (ptr_val p) (vbool t) in
@@ -43,15 +43,15 @@ module _ {M : Type 1} {𝓤 : Ura M} {𝓛 : Logic 𝓤} {K : Type 0} {Γ : List
       feq_i κ (List Val) (v ∷ []) (v ∷ []) refl $ fjoin κ $ fpack κ (Valss (RawPtr ∷ bool ∷ []))
       (within (shape handle.the_type) (p, (t, tt)) (v ∷ [])) (ptr_val p ∷ [], (vbool t ∷ [], tt)) $ fjoin κ $ s)
 
-  pub held_out : K → (p : Ptr) (z : Option HeldZone)
-      → ((b o : ℕ) (x : HeldZone) → p ≡ block_ptr b o → z ≡ Some x
+  pub held_out : K → (p : Ptr) (z : Option Holding)
+      → ((b o : ℕ) (x : Holding) → p ≡ block_ptr b o → z ≡ Some x
       → Seq K 𝓛 (‵ (box_owns token zone.the_row (block_ptr b o) x) ∷ Γ) G)
       → Seq K 𝓛 (‵ (held true p z) ∷ Γ) G
   held_out κ p (Some x) k = in_a_block κ p (λ q. box_owns token zone.the_row q x)
       (fst∗ 𝓤 (never 𝓤) (sem 𝓛 (token (bare (lone zone.the_row.mir)) null_ptr))) (λ b o e. k b o x e refl)
   held_out κ p None k = never_comes κ
 
-  pub handle_out : K → (p : Ptr) (t : Bool) (z : Option HeldZone) (vs : List Val)
+  pub handle_out : K → (p : Ptr) (t : Bool) (z : Option Holding) (vs : List Val)
       → (vs ≡ both (ptr_val p) (vbool t) ∷ [] → Seq K 𝓛 (‵ (held t p z) ∷ Γ) G)
       → Seq K 𝓛 (‵ (Handle.own_val (record { at = p; is_open = t; zone = z }) vs) ∷ Γ) G
   handle_out κ p t z vs k =
@@ -59,7 +59,7 @@ module _ {M : Type 1} {𝓤 : Ura M} {𝓛 : Logic 𝓤} {K : Type 0} {Γ : List
       (λ ev. fsplit κ $ feq_l κ (λ ep. fsplit κ $ feq_l κ (λ et. drop κ $ k
       (ev ∙ ap (λ (us : List Val × List Val). vstruct (of_list (us.0 ++ (us.1 ++ []))) ∷ []) (λ i. (ep i, et i)))))))
 
-  pub held_shut : K → (p : Ptr) (z : Option HeldZone) → (z ≡ None → Seq K 𝓛 (‵ ftrue ∷ Γ) G)
+  pub held_shut : K → (p : Ptr) (z : Option Holding) → (z ≡ None → Seq K 𝓛 (‵ ftrue ∷ Γ) G)
       → Seq K 𝓛 (‵ (held false p z) ∷ Γ) G
   held_shut κ p (Some x) k = never_comes κ
   held_shut κ p None k = k refl

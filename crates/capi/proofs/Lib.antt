@@ -4,6 +4,7 @@ mod BoxValues
 mod CheckLemmas
 mod HandleLemmas
 mod HandleValues
+mod HoldingLemmas
 mod KeptLemmas
 mod MessageLemmas
 mod MnemonicLemmas

@@ -2,6 +2,7 @@ pub mod Answer
 pub mod Applied
 pub mod Header
 pub mod Held
+pub mod Holding
 pub mod KeptPlace
 pub mod Message
 pub mod Mnemonic

@@ -25,11 +25,13 @@ use Rattle.rr.specs.RecordSet.{SetValue}
 use Rattle.txt.specs.ZoneSets.{ZoneSets}
 use Rattle.capi.specs.Answer.{Asked}
 use Rattle.capi.specs.Applied.{are_anames}
+use Rattle.capi.specs.Holding.{IsShared, zone_held, zone_in}
 use Rattle.capi.specs.Message.{message_of}
 use Rattle.capi.specs.Refusals.{closed, no_soa, not_on_wire, other_class, two_anames}
 use Rattle.capi.specs.ZoneText.{FitsWire, IsZoneText, zone_asked}
 use Rattle.capi.specs.declared.refusal.Refusal.{Refusal}
 use Rattle.capi.specs.declared.zone_handle.held.HeldZone.{HeldZone}
+use Rattle.capi.specs.declared.zone_handle.holding.Holding.{Holding}
 
 -- a zone's origin and its sets
 abbrev pub ZoneParts : Type 0
@@ -38,6 +40,10 @@ ZoneParts = NameValue × ZoneSets
 -- those of a zone that is held
 abbrev pub parts_of : HeldZone → ZoneParts
 parts_of zone = (zone.origin, zone.sets.entries)
+
+-- those of a zone that a handle holds
+abbrev pub parts_in : Holding → Option ZoneParts
+parts_in holding = option_map parts_of (zone_in holding)
 
 -- ---- opening
 
@@ -51,14 +57,18 @@ pub data IsHeld (asked : Asked ZoneParts) : Asked ZoneParts → Type 0 where
       → IsHeld asked (Ok x)
 
 -- the zone that was made, or the number of the refusal
-abbrev pub parts_made : {X : Type 0} → (X → HeldZone) → Result X Refusal → Asked ZoneParts
-parts_made view (Ok x) = Ok (parts_of (view x))
-parts_made view (Err refusal) = Err refusal.number
+abbrev pub parts_made : Result HeldZone Refusal → Asked ZoneParts
+parts_made (Ok zone) = Ok (parts_of zone)
+parts_made (Err refusal) = Err refusal.number
 
 -- What was made comes of this origin and this text; or memory ran out.
-abbrev pub Opens : {X : Type 0} → (X → HeldZone) → List ℕ → List ℕ → Result X Refusal → Type 0
-Opens view origin text made = IsHeld (zone_asked origin text) (parts_made view made)
-    ⊎ (parts_made view made ≡ Err 3)
+abbrev pub Opens : List ℕ → List ℕ → Result HeldZone Refusal → Type 0
+Opens origin text made = IsHeld (zone_asked origin text) (parts_made made) ⊎ (parts_made made ≡ Err 3)
+
+-- A handle holds this, and 0 is answered; or memory ran out, and it holds what it held.
+abbrev pub IsOpenAt : Holding → Option Holding → Option Holding → ℤ → Type 0
+IsOpenAt holding old new result = ((new ≡ Some holding) × (result ≡ pos 0))
+    ⊎ ((new ≡ old) × (result ≡ neg_ℤ (pos 3)))
 
 -- The handle holds the zone that was made, and 0 is answered; or it holds what it held, and a refusal is.
 abbrev pub IsOpen : Asked ZoneParts → Option HeldZone → Option HeldZone → ℤ → Type 0
@@ -116,6 +126,20 @@ IsRaisedIn old new result = (new.origin ≡ old.origin)
 abbrev pub IsRaising : Option HeldZone → Option HeldZone → ℤ → Type 0
 IsRaising None new result = (new ≡ None) × (result ≡ neg_ℤ (pos closed))
 IsRaising (Some old) new result = (zone : HeldZone) × (new ≡ Some zone) × IsRaisedIn old zone result
+
+-- That is so; or the zone is shared, memory ran out for a copy of it, and it stays.
+abbrev pub IsRaisingHeld : Option Holding → Option Holding → ℤ → Type 0
+IsRaisingHeld old new result = IsRaising (zone_held old) (zone_held new) result
+    ⊎ (IsShared old × (zone_held new ≡ zone_held old) × (result ≡ neg_ℤ (pos 3)))
+
+-- ---- sharing
+
+-- Another handle holds the zone too, and 0 is answered; or it holds what it held: the handle is closed, or memory ran
+-- out.
+abbrev pub IsSharing : Option HeldZone → Option HeldZone → Option HeldZone → ℤ → Type 0
+IsSharing None old new result = (new ≡ old) × (result ≡ neg_ℤ (pos closed))
+IsSharing (Some zone) old new result = ((new ≡ Some zone) × (result ≡ pos 0))
+    ⊎ ((new ≡ old) × (result ≡ neg_ℤ (pos 3)))
 
 -- ---- answering
 

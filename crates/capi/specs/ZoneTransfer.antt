@@ -50,6 +50,11 @@ served_made (Err refusal) = Err refusal.number
 abbrev pub Serves : HeldZone → List ℕ → KeptPlace → Result (Vec ℕ Global × KeptPlace) Refusal → Type 0
 Serves zone query kept made = IsServed zone query kept (served_made made) ⊎ (served_made made ≡ Err 3)
 
+-- the same of a zone that may not be there
+abbrev pub ServesHeld : Option HeldZone → List ℕ → KeptPlace → Result (Vec ℕ Global × KeptPlace) Refusal → Type 0
+ServesHeld None query kept made = served_made made ≡ Err closed
+ServesHeld (Some zone) query kept made = Serves zone query kept made
+
 -- the same of a handle, which may be closed
 abbrev pub IsServedFrom : Option HeldZone → List ℕ → KeptPlace → Asked (List ℕ × KeptPlace) → Type 0
 IsServedFrom None query kept made = made ≡ Err closed

@@ -7,6 +7,7 @@ mod long_names;
 mod long_zones;
 mod mnemonics;
 mod replies;
+mod shared;
 mod transferred;
 mod updates;
 mod wire_forms;

@@ -7,10 +7,12 @@ ghost use Rattle.std.specs.List.{list_any};
 ghost use Rattle.std.specs.Option.{option_map};
 ghost use Rattle.std.specs.Prelude.{◌≡◌, None, Some, false};
 ghost use Rattle.capi.specs.Answer.{IsAnswered, IsAnsweredBy, Makes, MakesBy};
-ghost use Rattle.capi.specs.ZoneHandle.{answer_asked, answer_of, carrier, IsHeldText, IsOpened, IsRaisedIn, IsRaising, IsTextOf, IsUpdated, IsUpdating, Opens};
+ghost use Rattle.capi.specs.Holding.{zone_held, zone_in};
+ghost use Rattle.capi.specs.ZoneHandle.{answer_asked, answer_of, carrier, IsHeldText, IsOpenAt, IsOpened, IsRaisedIn, IsRaisingHeld, IsSharing, IsTextOf, IsUpdated, IsUpdating, Opens};
 
 pub mod handle;
 mod held;
+mod holding;
 mod loose;
 pub mod place;
 pub mod transfer;
@@ -25,6 +27,7 @@ use authority::{Carrier, respond};
 use base::{DNSClass, RecordType, RrKey};
 use handle::ZoneHandle;
 use held::HeldZone;
+use holding::Holding;
 use loose::Loose;
 use op_use::{raise_serial, update_in_place};
 use parsed_zone::{are_sets_in, zone_lines};
@@ -46,21 +49,19 @@ pub extern "C" fn fuzsbanel_zone_open(
     text: &[u8],
     handle: &mut ZoneHandle,
 ) -> i64
-    ensures { IsOpened origin.now text.now handle.old.zone handle.new.zone result }
+    ensures { IsOpened origin.now text.now (zone_held handle.old.zone)
+        (zone_held handle.new.zone) result }
 {
-    match boxed_zone(alloc, origin, text) {
-        Ok(zone) => {
-            let new = ZoneHandle::of(Loose::of(zone));
-            free(alloc, mem::replace(handle, new));
-            0
-        }
+    match zone_of(alloc, origin, text) {
+        Ok(zone) => open_at(alloc, handle, Holding::Own(zone)),
         Err(refusal) => number(Err(refusal)),
     }
 }
 
 /// Applies an update to the zone, where it is, and answers the server's code (RFC 2136, 2.2 and 3): 0 for NoError, and
 /// the zone is changed. With any other code, and where the call is refused, each set stays as it was. An update costs
-/// what it names, and no more for a larger zone. The SOA's serial stays as it is.
+/// what it names, and no more for a larger zone; where other handles share the zone it is copied first, and those keep it as
+/// it was. The SOA's serial stays as it is.
 ///
 /// # Errors
 ///
@@ -71,12 +72,12 @@ pub extern "C" fn fuzsbanel_zone_update(
     handle: &mut ZoneHandle,
     update: &[u8],
 ) -> i64
-    ensures { IsUpdating update.now handle.old.zone handle.new.zone result }
+    ensures { IsUpdating update.now (zone_held handle.old.zone) (zone_held handle.new.zone) result }
 {
     match take(alloc, handle) {
-        Some(mut zone) => {
-            let code = update_zone(alloc, &mut zone, update);
-            put(handle, zone);
+        Some(mut holding) => {
+            let code = update_held(alloc, &mut holding, update);
+            put(handle, holding);
             code
         }
         None => number(Err(Refusal::CLOSED)),
@@ -84,19 +85,20 @@ pub extern "C" fn fuzsbanel_zone_update(
 }
 
 /// Raises the serial of the zone's SOA by one, modulo 2^32, as a server does after an update (RFC 1982, 3.1; RFC 2136,
-/// 3.6), and answers the new serial. All else of the zone stays as it was. Takes no memory, so 3 is never answered.
+/// 3.6), and answers the new serial. All else of the zone stays as it was. Takes no memory, so 3 is never answered, unless
+/// other handles share the zone, of which it is copied first.
 ///
 /// # Errors
 ///
 /// 34 for a closed handle, and 35 for a zone that has not exactly one record of SOA data as its SOA. The zone stays then.
 #[unsafe(no_mangle)]
 pub extern "C" fn fuzsbanel_zone_raise_serial(alloc: Global, handle: &mut ZoneHandle) -> i64
-    ensures { IsRaising handle.old.zone handle.new.zone result }
+    ensures { IsRaisingHeld handle.old.zone handle.new.zone result }
 {
     match take(alloc, handle) {
-        Some(mut zone) => {
-            let serial = raise_serial_of(alloc, &mut zone);
-            put(handle, zone);
+        Some(mut holding) => {
+            let serial = raise_held(alloc, &mut holding);
+            put(handle, holding);
             serial
         }
         None => refusal_code(Refusal::CLOSED),
@@ -118,12 +120,13 @@ pub extern "C" fn fuzsbanel_zone_text(
     needed: &mut usize,
 ) -> i64
     ensures zone { handle.new.zone ≡ handle.old.zone }
-    ensures text { IsAnsweredBy (IsHeldText handle.old.zone) out.old out.new needed.new result }
+    ensures text { IsAnsweredBy (IsHeldText (zone_held handle.old.zone)) out.old out.new needed.new
+        result }
 {
     match take(alloc, handle) {
-        Some(zone) => {
-            let made = text_of(alloc, &zone);
-            put(handle, zone);
+        Some(holding) => {
+            let made = held_text(alloc, &holding);
+            put(handle, holding);
             give(made, out, needed)
         }
         None => give(Err(Refusal::CLOSED), out, needed),
@@ -148,16 +151,46 @@ pub extern "C" fn fuzsbanel_zone_answer(
     needed: &mut usize,
 ) -> i64
     ensures zone { handle.new.zone ≡ handle.old.zone }
-    ensures answer { IsAnswered (answer_asked handle.old.zone (carrier most by_stream) received.now)
+    ensures answer { IsAnswered
+        (answer_asked (zone_held handle.old.zone) (carrier most by_stream) received.now)
         out.old out.new needed.new result }
 {
     match take(alloc, handle) {
-        Some(zone) => {
-            let sent = answer_of(alloc, &zone, received, carrier(most, by_stream));
-            put(handle, zone);
+        Some(holding) => {
+            let sent = answer_asked(alloc, &holding, received, carrier(most, by_stream));
+            put(handle, holding);
             give(sent, out, needed)
         }
         None => give(Err(Refusal::CLOSED), out, needed),
+    }
+}
+
+/// Opens another handle at the zone that a handle holds, and answers 0: both hold it then, and no record is copied. What the
+/// other held before is freed. A handle that is updated has a zone of its own from then on, and the other keeps this one.
+///
+/// # Errors
+///
+/// 34 for a closed handle. The other then holds what it held.
+#[unsafe(no_mangle)]
+pub extern "C" fn fuzsbanel_zone_share(
+    alloc: Global,
+    handle: &mut ZoneHandle,
+    other: &mut ZoneHandle,
+) -> i64
+    ensures zone { zone_held handle.new.zone ≡ zone_held handle.old.zone }
+    ensures other { IsSharing (zone_held handle.old.zone) (zone_held other.old.zone)
+        (zone_held other.new.zone) result }
+{
+    match take(alloc, handle) {
+        Some(mut holding) => {
+            let shared = holding.share(alloc);
+            put(handle, holding);
+            match shared {
+                Ok(shared) => open_at(alloc, other, Holding::Shared(shared)),
+                Err(refusal) => refusal_code(refusal),
+            }
+        }
+        None => refusal_code(Refusal::CLOSED),
     }
 }
 
@@ -169,20 +202,35 @@ pub extern "C" fn fuzsbanel_zone_close(alloc: Global, handle: &mut ZoneHandle)
     free(alloc, mem::replace(handle, ZoneHandle::closed()));
 }
 
-/// The zone of an origin, with the sets of a text, on the heap.
-fn boxed_zone(alloc: Global, origin: &[u8], text: &[u8]) -> Result<Box<HeldZone, Global>, Refusal>
-    ensures { Opens (λ zone. zone.value) origin.now text.now result }
+/// Applies an update to the zone that a handle holds, and answers its code, or minus the number of a refusal.
+fn update_held(alloc: Global, holding: &mut Holding, update: &[u8]) -> i64
+    ensures { IsUpdating update.now (zone_in holding.old) (zone_in holding.new) result }
 {
-    let zone = zone_of(alloc, origin, text)?;
-    match Box::new(alloc, zone) {
-        Ok(boxed) => Ok(boxed),
-        Err(e) => Err(AllocError::from(e).into()),
+    if let Err(e) = holding.make_own() {
+        return refusal_code(e.into());
+    }
+    match holding {
+        Holding::Own(zone) => update_zone(alloc, zone, update),
+        Holding::Shared(_) | Holding::Empty => refusal_code(Refusal::CLOSED),
+    }
+}
+
+/// Raises the serial of the zone that a handle holds, and answers it, or minus the number of a refusal.
+fn raise_held(alloc: Global, holding: &mut Holding) -> i64
+    ensures { IsRaisingHeld (Some holding.old) (Some holding.new) result }
+{
+    if let Err(e) = holding.make_own() {
+        return refusal_code(e.into());
+    }
+    match holding {
+        Holding::Own(zone) => raise_serial_of(alloc, zone),
+        Holding::Shared(_) | Holding::Empty => refusal_code(Refusal::CLOSED),
     }
 }
 
 /// The zone of an origin, with the sets of a text.
 fn zone_of(alloc: Global, origin: &[u8], text: &[u8]) -> Result<HeldZone, Refusal>
-    ensures { Opens (λ zone. zone) origin.now text.now result }
+    ensures { Opens origin.now text.now result }
 {
     let (origin, sets) = zone_asked(alloc, origin, text)?;
     if !fits_wire(&sets) {
@@ -230,6 +278,22 @@ pub fn carrier(most: u16, by_stream: bool) -> Carrier
     }
 }
 
+/// The bytes that are sent by the zone that a handle holds for those that came, none where nothing is.
+fn answer_asked(
+    alloc: Global,
+    holding: &Holding,
+    received: &[u8],
+    carrier: Carrier,
+) -> Result<Vec<u8>, Refusal>
+    ensures { Makes (λ sent. sent.items)
+        (answer_asked (zone_in holding.now) carrier received.now) result }
+{
+    match holding.zone() {
+        Some(zone) => answer_of(alloc, zone, received, carrier),
+        None => Err(Refusal::CLOSED),
+    }
+}
+
 /// The bytes that are sent for those that came, none where nothing is.
 fn answer_of(
     alloc: Global,
@@ -250,6 +314,16 @@ fn answer_of(
     Ok(sent.unwrap_or(Vec::new(alloc)))
 }
 
+/// The text of the zone that a handle holds.
+fn held_text(alloc: Global, holding: &Holding) -> Result<Vec<u8>, Refusal>
+    ensures { MakesBy (IsHeldText (zone_in holding.now)) result }
+{
+    match holding.zone() {
+        Some(zone) => text_of(alloc, zone),
+        None => Err(Refusal::CLOSED),
+    }
+}
+
 /// The text of a zone.
 fn text_of(alloc: Global, zone: &HeldZone) -> Result<Vec<u8>, Refusal>
     ensures { MakesBy (IsTextOf zone.now) result }
@@ -263,9 +337,23 @@ fn text_of(alloc: Global, zone: &HeldZone) -> Result<Vec<u8>, Refusal>
     Ok(zone_lines(alloc, &zone.origin, zone.sets.clone()?)?.into_bytes())
 }
 
-/// Takes the zone out of a handle, which is then closed.
-fn take(alloc: Global, handle: &mut ZoneHandle) -> Option<Box<HeldZone, Global>>
-    ensures zone { option_map (λ zone. zone.value) result ≡ handle.old.zone }
+/// Has a handle hold this, and answers 0; or 3, and it holds what it held. What it held before is freed.
+fn open_at(alloc: Global, handle: &mut ZoneHandle, holding: Holding) -> i64
+    ensures { IsOpenAt holding handle.old.zone handle.new.zone result }
+{
+    match Box::new(alloc, holding) {
+        Ok(boxed) => {
+            let new = ZoneHandle::of(Loose::of(boxed));
+            free(alloc, mem::replace(handle, new));
+            0
+        }
+        Err(e) => refusal_code(AllocError::from(e).into()),
+    }
+}
+
+/// Takes what a handle holds out of it, which is then closed.
+fn take(alloc: Global, handle: &mut ZoneHandle) -> Option<Box<Holding, Global>>
+    ensures zone { option_map (λ holding. holding.value) result ≡ handle.old.zone }
     ensures closed { (handle.new.is_open ≡ false) × (handle.new.zone ≡ None) }
 {
     let (is_open, was) = mem::replace(handle, ZoneHandle::closed()).look();
@@ -276,12 +364,12 @@ fn take(alloc: Global, handle: &mut ZoneHandle) -> Option<Box<HeldZone, Global>>
     None
 }
 
-/// Puts a zone into a closed handle.
-fn put(handle: &mut ZoneHandle, zone: Box<HeldZone, Global>)
+/// Puts what was taken into a closed handle.
+fn put(handle: &mut ZoneHandle, holding: Box<Holding, Global>)
     requires { handle.old.is_open ≡ false }
-    ensures { handle.new.zone ≡ Some zone.value }
+    ensures { handle.new.zone ≡ Some holding.value }
 {
-    mem::replace(handle, ZoneHandle::of(Loose::of(zone))).end();
+    mem::replace(handle, ZoneHandle::of(Loose::of(holding))).end();
 }
 
 /// Frees what a handle held.

@@ -2,9 +2,9 @@
 
 ghost use Rattle.std.specs.Prelude.{◌≡◌, Option, Some, None, true, false};
 ghost use Rattle.capi.specs.Held.{held, zone_code};
-ghost use Rattle.capi.specs.declared.zone_handle.held.HeldZone.{HeldZone as Held};
+ghost use Rattle.capi.specs.declared.zone_handle.holding.Holding.{Holding as Held};
 
-use crate::zone_handle::held::HeldZone;
+use crate::zone_handle::holding::Holding;
 use crate::zone_handle::loose::Loose;
 use std::alloc::Global;
 use std::marker::Model;
@@ -15,7 +15,7 @@ use std::ptr;
 pub struct ZoneHandle {
     at: *mut u8,
     is_open: bool,
-    // The zone of an open handle, none of a closed one.
+    // How an open handle holds its zone; none of a closed one.
     ghost zone: { Option Held } by { zone_code },
 }
 
@@ -35,7 +35,7 @@ impl ZoneHandle {
     }
 
     /// An open handle to a zone.
-    pub fn of(zone: Loose<HeldZone, Global>) -> ZoneHandle
+    pub fn of(zone: Loose<Holding, Global>) -> ZoneHandle
         ensures { result.zone ≡ Some zone.value }
     {
         let Loose { at, alloc: _ } = zone;
@@ -46,13 +46,13 @@ impl ZoneHandle {
     }
 
     /// The zone of an open handle.
-    pub fn into_zone(self, alloc: Global) -> Loose<HeldZone, Global>
+    pub fn into_zone(self, alloc: Global) -> Loose<Holding, Global>
         requires { self.is_open ≡ true }
         ensures { Some result.value ≡ self.zone }
     {
         let ZoneHandle { at, is_open: _ } = self;
         Loose {
-            at: at as *mut HeldZone,
+            at: at as *mut Holding,
             alloc,
         }
     }

@@ -1,10 +1,12 @@
 //! Zone transfers of a zone that a caller holds, message by message (RFC 5936, 2.2).
 
 ghost use Rattle.std.specs.Prelude.{◌≡◌};
-ghost use Rattle.capi.specs.ZoneTransfer.{IsMoved, IsServing, Serves, served_made};
+ghost use Rattle.capi.specs.Holding.{zone_held, zone_in};
+ghost use Rattle.capi.specs.ZoneTransfer.{IsMoved, IsServing, Serves, ServesHeld, served_made};
 
 use super::handle::ZoneHandle;
 use super::held::HeldZone;
+use super::holding::Holding;
 use super::place::KeptPlace;
 use super::{put, take};
 use crate::answer::give;
@@ -32,16 +34,31 @@ pub extern "C" fn fuzsbanel_zone_serve_transfer(
     needed: &mut usize,
 ) -> i64
     ensures zone { handle.new.zone ≡ handle.old.zone }
-    ensures served { IsServing handle.old.zone query.now place.old place.new
+    ensures served { IsServing (zone_held handle.old.zone) query.now place.old place.new
         out.old out.new needed.new result }
 {
     match take(alloc, handle) {
-        Some(zone) => {
-            let sent = next_message(alloc, &zone, query, place);
-            put(handle, zone);
+        Some(holding) => {
+            let sent = next_held(alloc, &holding, query, place);
+            put(handle, holding);
             go_on(sent, place, out, needed)
         }
         None => go_on(Err(Refusal::CLOSED), place, out, needed),
+    }
+}
+
+/// The same of the zone that a handle holds.
+fn next_held(
+    alloc: Global,
+    holding: &Holding,
+    query: &[u8],
+    kept: &KeptPlace,
+) -> Result<(Vec<u8>, KeptPlace), Refusal>
+    ensures { ServesHeld (zone_in holding.now) query.now kept.now result }
+{
+    match holding.zone() {
+        Some(zone) => next_message(alloc, zone, query, kept),
+        None => Err(Refusal::CLOSED),
     }
 }
 

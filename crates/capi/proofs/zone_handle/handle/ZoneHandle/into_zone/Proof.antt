@@ -25,7 +25,7 @@ use Rattle.std.specs.contracts.alloc.Global as global
 use Rattle.std.proofs.alloc.Global.TheLaws as global_laws
 use Rattle.std.specs.contracts.impls.GlobalAllocator.TheImpl.{ghosts}
 use Rattle.capi.specs.Held.{held}
-use Rattle.capi.specs.contracts.zone_handle.held.HeldZone as zone
+use Rattle.capi.specs.contracts.zone_handle.holding.Holding as zone
 use Rattle.capi.proofs.BoxValues.{both, loose_good, loose_in}
 use Rattle.capi.proofs.HandleValues.{Handle, handle_out, held_out}
 use Rattle.capi.specs.contracts.zone_handle.handle.ZoneHandle.into_zone.{ended, clauses}

@@ -23,7 +23,7 @@ use Rattle.std.proofs.raw_atomic.Walks.{proved_at, leaves}
 use Rattle.std.specs.contracts.alloc.Global as global
 use Rattle.std.proofs.alloc.Global.TheLaws as global_laws
 use Rattle.std.specs.contracts.impls.GlobalAllocator.TheImpl.{ghosts}
-use Rattle.capi.specs.contracts.zone_handle.held.HeldZone as zone
+use Rattle.capi.specs.contracts.zone_handle.holding.Holding as zone
 use Rattle.capi.proofs.BoxValues.{both, Loose, loose_good, loose_out}
 use Rattle.capi.proofs.HandleValues.{handle_in}
 use Rattle.capi.specs.contracts.zone_handle.handle.ZoneHandle.of.{ended, clauses}

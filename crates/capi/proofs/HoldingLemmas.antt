@@ -1,0 +1,159 @@
+-- A zone that a handle holds alone, where it was copied.
+use Rattle.std.proofs.Common.{Err, List, None, Ok, Option, Some, ap, cond, inl, inr, refl, subst, sym, ℕ, ℤ, ◌∙◌, ◌≡◌, ◌⊎◌}
+use Rattle.std.specs.Arc.{arc_value}
+use Rattle.std.specs.declared.sync.Arc.{Arc}
+use Rattle.std.specs.BTreeMap.{BTreeMap, IsUnchanged, get, is_at}
+use Rattle.std.specs.List.{IsAmong}
+use Rattle.std.specs.Map.{KeepsOthers, lookup}
+use Rattle.std.specs.Ordering.{eq_by_cmp}
+use Rattle.std.specs.Prelude.{map, neg_ℤ, option_map, pos, true, false}
+use Rattle.std.specs.FinMap as fin
+use Rattle.base.specs.RrKey.{key_cmp, key_of}
+use Rattle.base.specs.declared.dns_class.DNSClass.TheVariants as classes
+use Rattle.base.specs.declared.record_type.RecordType.TheVariants as types
+use Rattle.base.specs.declared.rr_key.RrKey.{RrKey}
+use Rattle.base.specs.names.Labels.{NameValue}
+use Rattle.op.specs.declared.response_code.ResponseCode.{ResponseCode}
+use Rattle.op_use.specs.Applying.{HasSameSets, IsApplied, IsZoneMap, applied, entry_of, records_applied, records_in, zone_of_map}
+use Rattle.op_use.specs.RaisedSerial.{IsRaised, IsRaisedTo, raised_set}
+use Rattle.op_use.specs.Server.{Sections, sections_of}
+use Rattle.rr.specs.RecordSet.{SetValue}
+use Rattle.rr.specs.SetChanges.{last_ttl}
+use Rattle.std.specs.Option.{option_and_then}
+use Rattle.std.specs.declared.alloc.Global.{Global}
+use Rattle.capi.specs.Holding.{Shares, is_shared, zone_held, zone_in}
+use Rattle.capi.specs.ZoneHandle.{IsOpenAt, IsRaisedIn, IsRaising, IsServed, IsSharing, IsSpared, IsUpdated, IsUpdating, ZoneParts, parts_of}
+use Rattle.capi.specs.declared.refusal.Refusal.{Refusal}
+use Rattle.capi.specs.declared.zone_handle.held.HeldZone.{HeldZone}
+use Rattle.capi.specs.declared.zone_handle.holding.Holding.{Holding}
+use Rattle.capi.specs.declared.zone_handle.holding.Holding.TheVariants as holdings
+
+-- ---- maps of the same entries
+
+module _ (m n : BTreeMap RrKey SetValue) (same : IsUnchanged m n) where
+  found : (q : RrKey) → get key_cmp n q ≡ get key_cmp m q
+  found q = ap (λ es. lookup (is_at (key_cmp q)) es) same
+
+  pub map_copied : IsZoneMap classes.IN m → IsZoneMap classes.IN n
+  map_copied old = λ q s e. old q s (sym (found q) ∙ e)
+
+  pub spared_copy : (p : BTreeMap RrKey SetValue) → HasSameSets n p → HasSameSets m p
+  spared_copy p is = λ q. is q ∙ found q
+
+  zone_copy : (origin : NameValue) → zone_of_map origin classes.IN n ≡ zone_of_map origin classes.IN m
+  zone_copy origin = ap (λ (es : List (RrKey × SetValue)).
+      record { origin = origin; class = classes.IN; sets = fin.from_entries (map entry_of es) }) same
+
+  pub applied_copy : (origin : NameValue) (s : Sections) (code : ResponseCode) (p : BTreeMap RrKey SetValue)
+      → IsApplied origin classes.IN s n code p → IsApplied origin classes.IN s m code p
+  applied_copy origin s code p h = record {
+    served = h.served ∙ ap (λ z. applied z s) (zone_copy origin);
+    is_map = h.is_map;
+    others = (λ q free. h.others.0 q free ∙ found q, λ e. h.others.1 e ∙ same);
+    taken = λ q v a. subst (λ o. IsAmong (records_in o) v ⊎ IsAmong s.updates v) (found q) (h.taken q v a);
+    ttls = λ q x e. subst (λ o. (o ≡ Some x) ⊎ (x.ttl ≡ last_ttl x.records)) (found q) (h.ttls q x e);
+    exact = λ q. h.exact q ∙ (λ i. records_applied (zone_copy origin i) s q (records_in (found q i)));
+    kept = λ q alike. h.kept q (alike ∙ ap records_in (sym (found q))) ∙ found q;
+  }
+
+  raised_to : (k : RrKey) (p : BTreeMap RrKey SetValue) (serial : Option ℕ) (o : Option (SetValue × ℕ))
+      → IsRaisedTo o k n p serial → IsRaisedTo o k m p serial
+  raised_to k p serial (Some r) (u, is) = (
+    (
+      λ q. u.0 q ∙ ap (λ x. cond (is_at (key_cmp k) q) (Some r.0) x) (found q),
+      u.1,
+      λ q out. u.2 q out ∙ found q,
+      subst (λ es. KeepsOthers (eq_by_cmp key_cmp) (is_at (key_cmp k)) es p.entries) same u.3,
+    ),
+    is,
+  )
+  raised_to k p serial None (sets, is) = (spared_copy p sets, is)
+
+  pub raised_copy : (k : RrKey) (p : BTreeMap RrKey SetValue) (serial : Option ℕ)
+      → IsRaised k n p serial → IsRaised k m p serial
+  raised_copy k p serial is = raised_to k p serial (option_and_then raised_set (get key_cmp m k))
+      (subst (λ o. IsRaisedTo (option_and_then raised_set o) k n p serial) (found k) is)
+
+-- ---- zones of the same parts
+
+module _ (a z new : HeldZone) (result : ℤ) (same : parts_of z ≡ parts_of a) where
+  origins : z.origin ≡ a.origin
+  origins = ap (λ (x : ZoneParts). x.0) same
+
+  sets : z.sets.entries ≡ a.sets.entries
+  sets = ap (λ (x : ZoneParts). x.1) same
+
+  updated_copy : (update : List ℕ) → IsUpdated update z new result → IsUpdated update a new result
+  updated_copy update (origin, is) = (origin ∙ origins, go is) where
+    go : IsServed update z new result ⊎ IsSpared update z new result
+        → IsServed update a new result ⊎ IsSpared update a new result
+    go (inl served) = inl (record {
+      message = served.message;
+      read = served.read;
+      code = served.code;
+      applied = applied_copy a.sets z.sets sets a.origin (sections_of served.message) served.code new.sets
+          (subst (λ o. IsApplied o classes.IN (sections_of served.message) z.sets served.code new.sets) origins
+          served.applied);
+      is = served.is;
+    })
+    go (inr spared) = inr (record {
+      sets = spared_copy a.sets z.sets sets new.sets spared.sets;
+      number = spared.number;
+      why = spared.why;
+      is = spared.is;
+    })
+
+  raised_in_copy : IsRaisedIn z new result → IsRaisedIn a new result
+  raised_in_copy (origin, (serial, raised, is)) = (
+    origin ∙ origins,
+    (
+      serial,
+      raised_copy a.sets z.sets sets (key_of a.origin types.SOA) new.sets serial
+          (subst (λ o. IsRaised (key_of o types.SOA) z.sets new.sets serial) origins raised),
+      is,
+    ),
+  )
+
+-- ---- what a handle holds
+
+-- the parts, of those that are there
+abbrev some_parts : ZoneParts → Option ZoneParts → ZoneParts
+some_parts other (Some parts) = parts
+some_parts other None = other
+
+-- a zone that was made the handle's own is updated as what the handle held
+pub updating_own : (update : List ℕ) (old : Option HeldZone) (z new : HeldZone) (result : ℤ)
+    → Some (parts_of z) ≡ option_map parts_of old → IsUpdated update z new result
+    → IsUpdating update old (Some new) result
+updating_own update None z new result same is = absurd cc
+updating_own update (Some a) z new result same is =
+    (new, refl, updated_copy a z new result (ap (some_parts (parts_of a)) same) update is)
+
+-- and so is its serial raised
+pub raising_own : (old : Option HeldZone) (z new : HeldZone) (result : ℤ)
+    → Some (parts_of z) ≡ option_map parts_of old → IsRaisedIn z new result → IsRaising old (Some new) result
+raising_own None z new result same is = absurd cc
+raising_own (Some a) z new result same is =
+    (new, refl, raised_in_copy a z new result (ap (some_parts (parts_of a)) same) is)
+
+-- a zone that is shared, and wasn't copied since memory ran out, stays
+pub updating_stays : (update : List ℕ) (old new : Holding) → is_shared old ≡ true → zone_in new ≡ zone_in old
+    → IsUpdating update (zone_in old) (zone_in new) (neg_ℤ (pos 3))
+updating_stays update (holdings.Own z) new is same = absurd cc
+updating_stays update (holdings.Shared z) new is same =
+    (arc_value z, same, (refl, inr (record { sets = λ k. refl; number = 3; why = inl refl; is = refl })))
+updating_stays update holdings.Empty new is same = absurd cc
+
+-- a handle that was opened at what is shared shares it
+pub sharing_made : (zone : Option HeldZone) (shared : Arc HeldZone Global) (old new : Option Holding) (result : ℤ)
+    → Shares zone (Ok shared) → IsOpenAt (holdings.Shared shared) old new result
+    → IsSharing zone (zone_held old) (zone_held new) result
+sharing_made None shared old new result is opens = absurd is
+sharing_made (Some z) shared old new result is (inl (opened, zero)) = inl (ap zone_held opened ∙ ap Some is, zero)
+sharing_made (Some z) shared old new result is (inr (stays, three)) = inr (ap zone_held stays, three)
+
+-- and one that wasn't holds what it held
+pub sharing_refused : (zone : Option HeldZone) (refusal : Refusal) (old : Option HeldZone) (result : ℤ)
+    → Shares zone (Err refusal) → result ≡ neg_ℤ (pos refusal.number) → IsSharing zone old old result
+sharing_refused None refusal old result is told = (refl, told ∙ ap (λ n. neg_ℤ (pos n)) is)
+sharing_refused (Some z) refusal old result is told = inr (refl, told ∙ ap (λ n. neg_ℤ (pos n)) is)
