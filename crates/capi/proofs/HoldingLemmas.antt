@@ -1,5 +1,6 @@
 -- A zone that a handle holds alone, where it was copied.
-use Rattle.std.proofs.Common.{Err, List, None, Ok, Option, Some, ap, cond, inl, inr, refl, subst, sym, ℕ, ℤ, ◌∙◌, ◌≡◌, ◌⊎◌}
+use Rattle.std.proofs.Common.{Err, List, None, Ok, Option, Some, ap, cond, inl, inr, refl, subst, sym, ℕ, ℤ, ◌∙◌, ◌≡◌}
+use Rattle.std.proofs.Common.{◌⊎◌}
 use Rattle.std.specs.Arc.{arc_value}
 use Rattle.std.specs.declared.sync.Arc.{Arc}
 use Rattle.std.specs.BTreeMap.{BTreeMap, IsUnchanged, get, is_at}
@@ -14,7 +15,9 @@ use Rattle.base.specs.declared.record_type.RecordType.TheVariants as types
 use Rattle.base.specs.declared.rr_key.RrKey.{RrKey}
 use Rattle.base.specs.names.Labels.{NameValue}
 use Rattle.op.specs.declared.response_code.ResponseCode.{ResponseCode}
-use Rattle.op_use.specs.Applying.{HasSameSets, IsApplied, IsZoneMap, applied, entry_of, records_applied, records_in, zone_of_map}
+use Rattle.op_use.specs.Applying.{HasSameSets, IsApplied, IsZoneMap, applied, entry_of, records_applied, records_in}
+use Rattle.op_use.specs.Applying.{zone_of_map}
+use Rattle.op_use.proofs.WholeSteps.{applied_copy}
 use Rattle.op_use.specs.RaisedSerial.{IsRaised, IsRaisedTo, raised_set}
 use Rattle.op_use.specs.Server.{Sections, sections_of}
 use Rattle.rr.specs.RecordSet.{SetValue}
@@ -22,7 +25,8 @@ use Rattle.rr.specs.SetChanges.{last_ttl}
 use Rattle.std.specs.Option.{option_and_then}
 use Rattle.std.specs.declared.alloc.Global.{Global}
 use Rattle.capi.specs.Holding.{Shares, is_shared, zone_held, zone_in}
-use Rattle.capi.specs.ZoneHandle.{IsOpenAt, IsRaisedIn, IsRaising, IsServed, IsSharing, IsSpared, IsUpdated, IsUpdating, ZoneParts, parts_of}
+use Rattle.capi.specs.ZoneHandle.{IsOpenAt, IsRaisedIn, IsRaising, IsServed, IsSharing, IsSpared, IsUpdated, IsUpdating}
+use Rattle.capi.specs.ZoneHandle.{ZoneParts, parts_of}
 use Rattle.capi.specs.declared.refusal.Refusal.{Refusal}
 use Rattle.capi.specs.declared.zone_handle.held.HeldZone.{HeldZone}
 use Rattle.capi.specs.declared.zone_handle.holding.Holding.{Holding}
@@ -34,27 +38,8 @@ module _ (m n : BTreeMap RrKey SetValue) (same : IsUnchanged m n) where
   found : (q : RrKey) → get key_cmp n q ≡ get key_cmp m q
   found q = ap (λ es. lookup (is_at (key_cmp q)) es) same
 
-  pub map_copied : IsZoneMap classes.IN m → IsZoneMap classes.IN n
-  map_copied old = λ q s e. old q s (sym (found q) ∙ e)
-
   pub spared_copy : (p : BTreeMap RrKey SetValue) → HasSameSets n p → HasSameSets m p
   spared_copy p is = λ q. is q ∙ found q
-
-  zone_copy : (origin : NameValue) → zone_of_map origin classes.IN n ≡ zone_of_map origin classes.IN m
-  zone_copy origin = ap (λ (es : List (RrKey × SetValue)).
-      record { origin = origin; class = classes.IN; sets = fin.from_entries (map entry_of es) }) same
-
-  pub applied_copy : (origin : NameValue) (s : Sections) (code : ResponseCode) (p : BTreeMap RrKey SetValue)
-      → IsApplied origin classes.IN s n code p → IsApplied origin classes.IN s m code p
-  applied_copy origin s code p h = record {
-    served = h.served ∙ ap (λ z. applied z s) (zone_copy origin);
-    is_map = h.is_map;
-    others = (λ q free. h.others.0 q free ∙ found q, λ e. h.others.1 e ∙ same);
-    taken = λ q v a. subst (λ o. IsAmong (records_in o) v ⊎ IsAmong s.updates v) (found q) (h.taken q v a);
-    ttls = λ q x e. subst (λ o. (o ≡ Some x) ⊎ (x.ttl ≡ last_ttl x.records)) (found q) (h.ttls q x e);
-    exact = λ q. h.exact q ∙ (λ i. records_applied (zone_copy origin i) s q (records_in (found q i)));
-    kept = λ q alike. h.kept q (alike ∙ ap records_in (sym (found q))) ∙ found q;
-  }
 
   raised_to : (k : RrKey) (p : BTreeMap RrKey SetValue) (serial : Option ℕ) (o : Option (SetValue × ℕ))
       → IsRaisedTo o k n p serial → IsRaisedTo o k m p serial
@@ -91,7 +76,7 @@ module _ (a z new : HeldZone) (result : ℤ) (same : parts_of z ≡ parts_of a) 
       message = served.message;
       read = served.read;
       code = served.code;
-      applied = applied_copy a.sets z.sets sets a.origin (sections_of served.message) served.code new.sets
+      applied = applied_copy a.origin classes.IN a.sets z.sets new.sets sets (sections_of served.message) served.code
           (subst (λ o. IsApplied o classes.IN (sections_of served.message) z.sets served.code new.sets) origins
           served.applied);
       is = served.is;

@@ -67,7 +67,8 @@ abbrev pub has_bits : Option Edns → ℕ → Bool
 has_bits None code = nat_lt code HEADER_CODES
 has_bits (Some edns) code = nat_lt code EDNS_CODES
 
--- the response to a query without records: its id, operation, RD and CD (RFC 6895, 2), its questions, and EDNS with its DO
+-- the response to a query without records: its id, operation, RD and CD (RFC 6895, 2), its questions, and EDNS with its
+-- DO
 -- where it has EDNS (RFC 6891, 6.1.1; RFC 3225, 3)
 abbrev pub response_to : Says → MessageValue → MessageValue
 response_to says query =
@@ -95,7 +96,8 @@ reply_asked bytes says by answers authorities additionals =
     filled answers authorities additionals response >>= λ reply.
     Ok (most_sent by (payload_taken query.edns), reply)
 
--- What comes of a message that is asked for, and so many bytes: a cut of it, which is read as that, or why there is none.
+-- What comes of a message that is asked for, and so many bytes: a cut of it, which is read as that, or why there is
+-- none.
 pub data IsBuilt (asked : Asked (ℕ × MessageValue)) : Asked (List ℕ) → Type 0 where
   refused : {number : ℕ} → asked ≡ Err number → IsBuilt asked (Err number)
   unfit : {limit : ℕ} {m : MessageValue} → asked ≡ Ok (limit, m) → ¬ Fits m

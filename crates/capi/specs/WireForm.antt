@@ -46,7 +46,8 @@ data_named type text = characters text >>= λ chars. one_set root (data_line typ
 abbrev pub counted : List ℕ → Asked (List ℕ)
 counted bytes = if nat_le (length bytes) MAX_MESSAGE then Ok bytes else Err too_long
 
--- Data without compression (RFC 1035, 3.3; RFC 3597, 4). What is written of it first has no name to point to, but for the
+-- Data without compression (RFC 1035, 3.3; RFC 3597, 4). What is written of it first has no name to point to, but for
+-- the
 -- second name of an SOA.
 abbrev pub data_octets : RData → Asked (List ℕ)
 data_octets (kinds.SOA x) = Ok (name_octets x.mname ++ (name_octets x.rname ++ soa_numbers x))

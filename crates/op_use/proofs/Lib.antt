@@ -24,5 +24,5 @@ mod SettleSteps
 pub mod TypeSteps
 mod UpdateSteps
 pub mod WalkSteps
-mod WholeSteps
+pub mod WholeSteps
 mod ZoneSteps

@@ -1,8 +1,9 @@
 use Rattle.std.proofs.Common.{ap, sym, ◌∙◌, ◌≡◌}
 use Rattle.base.specs.RrKey.{key_of}
+use Rattle.base.specs.declared.dns_class.DNSClass.TheVariants as classes
 use Rattle.base.specs.declared.record_type.RecordType.TheVariants as types
 use Rattle.capi.proofs.HandleLemmas.{copied}
-use Rattle.capi.proofs.HoldingLemmas.{map_copied}
+use Rattle.op_use.proofs.WholeSteps.{map_copy}
 use Rattle.capi.proofs.zone_handle.holding.copy.Goals as goal
 
 pub invariant_of-result : goal.invariant_of-result
@@ -14,7 +15,8 @@ invariant_of-result c =
     record {
       soa_is = soa ∙ c.args.zone.now.soa_is
           ∙ ap (λ o. key_of o types.SOA) (sym c.in_ok-clone.ensures.cases);
-      kept = map_copied c.args.zone.now.sets c.in_ok-clone-2.field-0
+      kept = map_copy c.args.zone.now.origin classes.IN c.args.zone.now.sets c.in_ok-clone-2.field-0
+          c.in_ok-clone-2.field-0
           (copied c.args.zone.now.sets c.in_ok-clone-2.field-0 c.in_ok-clone-2.ensures.cases) c.args.zone.now.kept;
     }
 
