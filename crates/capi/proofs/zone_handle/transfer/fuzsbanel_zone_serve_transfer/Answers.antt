@@ -12,7 +12,7 @@ returns-in-None-clause-served c =
     to_z-of_z w64 c.go_on-in-None.result (record { sfits = c.go_on-in-None.type_inv }) in
     let comes : IsServedFrom (zone_held c.args.handle.now.zone) c.args.query.now c.args.place.now (Err closed) =
     subst (λ h. IsServedFrom (zone_held h) c.args.query.now c.args.place.now (Err closed)) c.in-None.ensures.zone
-      refl in
+    refl in
     inl (
       Err closed,
       comes,
