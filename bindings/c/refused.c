@@ -1,5 +1,6 @@
-/* Refuses each growth of a call on a zone that is held, one after the other: the call answers that memory ran out, and the
- * zone is what it was; one that another handle shares stays so there in any case. The library takes memory by the three functions below, in place of those over `malloc`. */
+/* Refuses each growth of a call on a zone that is held, one after the other: the call answers that memory ran out, and
+ * the zone is what it was; one that another handle shares stays so there in any case. The library takes memory by the
+ * three functions below, in place of those over `malloc`. */
 #include "fuzsbanel.h"
 
 #include <inttypes.h>
