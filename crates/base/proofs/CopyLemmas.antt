@@ -1,5 +1,5 @@
 -- Copies into a room.
-use Rattle.std.proofs.Common.{◌≡◌, ◌∙◌, ℕ, ◌+◌, ◌-◌, ◌≤◌, List, [], ◌∷◌, ◌++◌, length, take, drop, suc, ap, sym, arith}
+use Rattle.std.proofs.Common.{◌≡◌, ◌∙◌, ℕ, ◌+◌, ◌-◌, ◌≤◌, List, [], ◌++◌, length, take, drop, ap, sym, arith}
 use Rattle.std.proofs.Common.{append-nil, length-take, length-drop, length-append}
 use Rattle.std.proofs.lemmas.List.{drop_all, take-take, take-append-le, take-append-drop}
 use Rattle.std.proofs.lemmas.Slice.{drop-put_mid, take-put_mid}

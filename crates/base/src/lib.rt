@@ -19,7 +19,7 @@ pub use lower_name::LowerName;
 pub use name::Name;
 pub use record_type::RecordType;
 pub use rr_key::RrKey;
-pub use text::{Lexer, Token, parse_ttl};
+pub use text::{Lexer, Token, TokenRef, parse_ttl};
 pub use wire::{
     BinDecodable, BinDecoder, BinEncodable, BinEncoder, EmitAndCount, EncodedSize, Place,
     emit_sized, read_many,

@@ -83,48 +83,36 @@ impl RecordType {
     pub fn from_text(text: &str) -> Option<RecordType>
         ensures { result ≡ type_from_text text.now }
     {
-        for named in RecordType::with_names() {
-            if named.name() == Some(text) {
-                return Some(named);
-            }
+        match text {
+            "ZERO" => Some(RecordType::ZERO),
+            "A" => Some(RecordType::A),
+            "NS" => Some(RecordType::NS),
+            "CNAME" => Some(RecordType::CNAME),
+            "SOA" => Some(RecordType::SOA),
+            "NULL" => Some(RecordType::NULL),
+            "PTR" => Some(RecordType::PTR),
+            "MX" => Some(RecordType::MX),
+            "TXT" => Some(RecordType::TXT),
+            "SIG" => Some(RecordType::SIG),
+            "KEY" => Some(RecordType::KEY),
+            "AAAA" => Some(RecordType::AAAA),
+            "SRV" => Some(RecordType::SRV),
+            "OPT" => Some(RecordType::OPT),
+            "DS" => Some(RecordType::DS),
+            "RRSIG" => Some(RecordType::RRSIG),
+            "NSEC" => Some(RecordType::NSEC),
+            "DNSKEY" => Some(RecordType::DNSKEY),
+            "NSEC3" => Some(RecordType::NSEC3),
+            "NSEC3PARAM" => Some(RecordType::NSEC3PARAM),
+            "CDS" => Some(RecordType::CDS),
+            "CDNSKEY" => Some(RecordType::CDNSKEY),
+            "TSIG" => Some(RecordType::TSIG),
+            "IXFR" => Some(RecordType::IXFR),
+            "AXFR" => Some(RecordType::AXFR),
+            "ANY" => Some(RecordType::ANY),
+            "ANAME" => Some(RecordType::ANAME),
+            _ => None,
         }
-        None
-    }
-
-    /// The types that have a name (RFC 1035, 3.2.2 and 3.2.3; RFC 6895, 3.1).
-    fn with_names() -> array::IntoIter<RecordType, 27>
-        ensures { array_into_iter_items result ≡ named_types }
-    {
-        [
-            RecordType::ZERO,
-            RecordType::A,
-            RecordType::NS,
-            RecordType::CNAME,
-            RecordType::SOA,
-            RecordType::NULL,
-            RecordType::PTR,
-            RecordType::MX,
-            RecordType::TXT,
-            RecordType::SIG,
-            RecordType::KEY,
-            RecordType::AAAA,
-            RecordType::SRV,
-            RecordType::OPT,
-            RecordType::DS,
-            RecordType::RRSIG,
-            RecordType::NSEC,
-            RecordType::DNSKEY,
-            RecordType::NSEC3,
-            RecordType::NSEC3PARAM,
-            RecordType::CDS,
-            RecordType::CDNSKEY,
-            RecordType::TSIG,
-            RecordType::IXFR,
-            RecordType::AXFR,
-            RecordType::ANY,
-            RecordType::ANAME,
-        ]
-        .into_iter()
     }
 
     /// The name of a named type (RFC 1035, 3.2.2 and 3.2.3).

@@ -7,5 +7,5 @@ pub mod token;
 pub mod ttl;
 
 pub use lexer::Lexer;
-pub use token::Token;
+pub use token::{Token, TokenRef};
 pub use ttl::parse_ttl;

@@ -5,6 +5,8 @@ use Rattle.std.specs.Str.{bytes_eq}
 use Rattle.std.specs.String.{string_bytes}
 use Rattle.base.specs.declared.text.token.Token.{Token}
 use Rattle.base.specs.declared.text.token.Token.TheVariants as tokens
+use Rattle.base.specs.declared.text.token.TokenRef.{TokenRef}
+use Rattle.base.specs.declared.text.token.TokenRef.TheVariants as refs
 
 -- A token without where it lies in memory: an item or a quoted text; what stands in parentheses; blanks at the
 -- beginning of a line; the end of a line; the sign @; $ORIGIN, $INCLUDE and $TTL.
@@ -32,6 +34,17 @@ value_of tokens.At = at
 value_of tokens.Origin = origin_sign
 value_of tokens.Include = include
 value_of tokens.Ttl = ttl_sign
+
+-- the same of one whose items stand in the text
+abbrev pub lent_value : TokenRef → TokenValue
+lent_value (refs.CharData text) = char_data text.now
+lent_value (refs.List items) = list (map (λ item. item.now) items.items)
+lent_value refs.Blank = blank
+lent_value refs.EOL = eol
+lent_value refs.At = at
+lent_value refs.Origin = origin_sign
+lent_value refs.Include = include
+lent_value refs.Ttl = ttl_sign
 
 -- what is still to be read, and whether it stands at the beginning of a line
 pub record Unread : Type 0 where

@@ -2,16 +2,15 @@
 //!
 //! Every character with a meaning is one of ASCII, so texts are looked at byte by byte.
 
-ghost use Rattle.std.specs.Prelude.{◌≡◌, ◌<◌, ◌+◌, ◌∷◌, false, length, take, drop, get_or, slice_get, IfSome, IsTrue, None, Some};
+ghost use Rattle.std.specs.Prelude.{◌≡◌, ◌<◌, ◌+◌, ◌∷◌, false, length, map, take, drop, get_or, slice_get, IfSome, IsTrue, None, Some};
 ghost use Rattle.std.specs.Option.{option_map};
 ghost use Rattle.std.specs.Str.{IsCharBoundary};
-ghost use Rattle.std.specs.String.{string_bytes};
-ghost use Rattle.base.specs.texts.Cuts.{AnswersElement, AnswersItem, AnswersSign, CutsOff};
+ghost use Rattle.base.specs.texts.Cuts.{AnswersElement, AnswersItem, CutsOff};
 ghost use Rattle.base.specs.texts.Tokens.{begins_blank, element, ends_item, is_blank, is_line_end, item};
-ghost use Rattle.base.specs.texts.Tokens.{line_end, list_items, past_blanks, past_comment, past_line_end, past_separators, quoted, separates, texts};
+ghost use Rattle.base.specs.texts.Tokens.{line_end, list_items, past_blanks, past_comment, past_line_end, past_separators, quoted, separates};
 
 use crate::error::ParseError;
-use crate::text::Token;
+use crate::text::TokenRef;
 use std::alloc::Global;
 
 /// Whether an item ends before this byte. All bytes that end one but `;` are at most `)`, and most bytes of an item are
@@ -171,51 +170,50 @@ fn past_separators(text: &str) -> &str
 }
 
 /// The item that a text begins with, and what is after it.
-pub(super) fn take_item(alloc: Global, text: &str) -> Result<(String, &str), ParseError>
-    ensures { CutsOff (λ r. (string_bytes r.0, r.1.now)) result (item false text.now) }
+pub(super) fn take_item(text: &str) -> Result<(&str, &str), ParseError>
+    ensures { CutsOff (λ r. (r.0.now, r.1.now)) result (item false text.now) }
 {
     let Some(len) = item_len(text.as_bytes()) else {
         return Err(ParseError::Lexer);
     };
-    let (word, rest) = text.split_at(len);
-    Ok((String::from_str(alloc, word)?, rest))
+    Ok(text.split_at(len))
 }
 
 /// What stands before the closing quotation mark, and what is after that.
-pub(super) fn take_quoted(alloc: Global, text: &str) -> Result<(String, &str), ParseError>
-    ensures { CutsOff (λ r. (string_bytes r.0, r.1.now)) result (quoted false text.now) }
+pub(super) fn take_quoted(text: &str) -> Result<(&str, &str), ParseError>
+    ensures { CutsOff (λ r. (r.0.now, r.1.now)) result (quoted false text.now) }
 {
     let Some(len) = quoted_len(text.as_bytes()) else {
         return Err(ParseError::Lexer);
     };
     let (word, rest) = text.split_at(len);
-    Ok((String::from_str(alloc, word)?, past_first(rest)))
+    Ok((word, past_first(rest)))
 }
 
 /// The next item or quoted text within parentheses, none where they close, and what is after it.
 #[tactic(auto, unfolding(crate::specs::texts::Tokens::element))]
-fn take_element(alloc: Global, text: &str) -> Result<(Option<String>, &str), ParseError>
+fn take_element(text: &str) -> Result<(Option<&str>, &str), ParseError>
     ensures { AnswersElement result (element (past_separators false text.now)) }
 {
     let rest = past_separators(text);
     let (word, tail) = match first_byte(rest) {
         Some(b')') => return Ok((None, past_first(rest))),
         None | Some(b'(' | b'$') => return Err(ParseError::Lexer),
-        Some(b'"') => take_quoted(alloc, past_first(rest))?,
-        Some(_) => take_item(alloc, rest)?,
+        Some(b'"') => take_quoted(past_first(rest))?,
+        Some(_) => take_item(rest)?,
     };
     Ok((Some(word), tail))
 }
 
 /// The items within parentheses and what is after the closing one, of the text after the opening one.
-pub(super) fn take_list(alloc: Global, text: &str) -> Result<(Vec<String>, &str), ParseError>
-    ensures { CutsOff (λ r. (texts r.0.items, r.1.now)) result
+pub(super) fn take_list(alloc: Global, text: &str) -> Result<(Vec<&str>, &str), ParseError>
+    ensures { CutsOff (λ r. (map (λ word. word.now) r.0.items, r.1.now)) result
         (list_items (length text.now) text.now) }
 {
     let mut items = Vec::new(alloc);
     let mut rest = text;
     'items: loop {
-        let (word, tail) = take_element(alloc, rest)?;
+        let (word, tail) = take_element(rest)?;
         rest = tail;
         let Some(word) = word else {
             return Ok((items, rest));
@@ -238,36 +236,33 @@ pub(super) fn past_line_end(text: &str) -> &str
 }
 
 /// The token of an item outside parentheses.
-pub(super) fn token_of(word: String) -> Result<Token, ParseError>
-    ensures { AnswersItem result (string_bytes word) }
+pub(super) fn token_of(word: &str) -> Result<TokenRef<'_>, ParseError>
+    ensures { AnswersItem result word.now }
 {
-    match first_byte(word.as_str()) {
-        Some(b'@' | b'$') => match sign_of(word.as_str())? {
-            Some(sign) => Ok(sign),
-            None => Ok(Token::CharData(word)),
-        },
-        _ => Ok(Token::CharData(word)),
+    match first_byte(word) {
+        Some(b'@' | b'$') => sign_of(word),
+        _ => Ok(TokenRef::CharData(word)),
     }
 }
 
 /// The sign that an item is which begins with `@` or `$`, where it is one.
-fn sign_of(word: &str) -> Result<Option<Token>, ParseError>
-    ensures { AnswersSign result word.now }
+fn sign_of(word: &str) -> Result<TokenRef<'_>, ParseError>
+    ensures { AnswersItem result word.now }
 {
     if word == "@" {
-        return Ok(Some(Token::At));
+        return Ok(TokenRef::At);
     }
     if word == "$ORIGIN" {
-        return Ok(Some(Token::Origin));
+        return Ok(TokenRef::Origin);
     }
     if word == "$INCLUDE" {
-        return Ok(Some(Token::Include));
+        return Ok(TokenRef::Include);
     }
     if word == "$TTL" {
-        return Ok(Some(Token::Ttl));
+        return Ok(TokenRef::Ttl);
     }
     if first_byte(word) == Some(b'$') {
         return Err(ParseError::Lexer);
     }
-    Ok(None)
+    Ok(TokenRef::CharData(word))
 }

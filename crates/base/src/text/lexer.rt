@@ -3,14 +3,14 @@
 ghost use Rattle.std.specs.Prelude.{◌≡◌, IsTrue, Some, false, is_ok, slice_get, true};
 ghost use Rattle.base.specs.texts.Cuts.{AnswersNext, AnswersToken, Stays, TakesNone};
 ghost use Rattle.base.specs.texts.TokenList.{first_place, symbols};
-ghost use Rattle.base.specs.texts.Tokens.{is_line_end, next, visible};
+ghost use Rattle.base.specs.texts.Tokens.{is_line_end, lent_value, next, value_of, visible};
 
 use crate::error::ParseError;
-use crate::text::Token;
 use crate::text::cutting::{
     begins_blank, first_byte, is_line_end, past_blanks, past_comment, past_first, past_line_end,
     take_item, take_list, take_quoted, token_of,
 };
+use crate::text::{Token, TokenRef};
 use std::alloc::Global;
 use std::marker::Model;
 
@@ -77,9 +77,31 @@ impl<'a> Lexer<'a> {
     /// them, an item that begins with `$` and is none of `$ORIGIN`, `$INCLUDE` and `$TTL`, and the text's end within
     /// parentheses, in quotes or after a backslash. `Memory` if memory runs out, which is never so at the end of the
     /// text, for blanks or at the end of a line.
-    #[tactic(auto, unfolding(crate::specs::texts::Tokens::next, crate::specs::texts::Tokens::visible))]
     pub fn next_token(&mut self) -> Result<Option<Token>, ParseError>
-        ensures value { AnswersNext result self.new (next self.old) }
+        ensures value { AnswersNext value_of result self.new (next self.old) }
+        ensures stays { Stays result self.old self.new }
+        // At the end of the text, for blanks and at the end of a line, nothing is refused.
+        ensures certain { TakesNone (next self.old) → IsTrue (is_ok result) }
+    {
+        let start = self.fork();
+        let Some(lent) = self.next_ref()? else {
+            return Ok(None);
+        };
+        let Ok(token) = lent.to_token(self.alloc) else {
+            *self = start;
+            return Err(ParseError::Memory);
+        };
+        Ok(Some(token))
+    }
+
+    /// The same with the items where they stand in the text, of which only those in parentheses take memory.
+    ///
+    /// # Errors
+    ///
+    /// Those of `next_token`.
+    #[tactic(auto, unfolding(crate::specs::texts::Tokens::next, crate::specs::texts::Tokens::visible))]
+    pub fn next_ref(&mut self) -> Result<Option<TokenRef<'a>>, ParseError>
+        ensures value { AnswersNext lent_value result self.new (next self.old) }
         ensures stays { Stays result self.old self.new }
         // At the end of the text, for blanks and at the end of a line, nothing is refused.
         ensures certain { TakesNone (next self.old) → IsTrue (is_ok result) }
@@ -87,7 +109,7 @@ impl<'a> Lexer<'a> {
         if self.at_line_start && begins_blank(self.rest) {
             self.rest = past_blanks(self.rest);
             self.at_line_start = false;
-            return Ok(Some(Token::Blank));
+            return Ok(Some(TokenRef::Blank));
         }
         let text = past_comment(past_blanks(self.rest));
         let Some(c) = first_byte(text) else {
@@ -96,7 +118,7 @@ impl<'a> Lexer<'a> {
         if is_line_end(c) {
             self.rest = past_line_end(text);
             self.at_line_start = true;
-            return Ok(Some(Token::EOL));
+            return Ok(Some(TokenRef::EOL));
         }
         let (token, rest) = cut_token(self.alloc, c, text)?;
         self.rest = rest;
@@ -108,23 +130,23 @@ impl<'a> Lexer<'a> {
 /// The token that a text begins with, which begins with this byte, no blank, no comment and no line's end,
 /// and what is after it.
 #[tactic(auto, unfolding(crate::specs::texts::Tokens::visible))]
-fn cut_token(alloc: Global, first: u8, text: &str) -> Result<(Token, &str), ParseError>
+fn cut_token(alloc: Global, first: u8, text: &str) -> Result<(TokenRef<'_>, &str), ParseError>
     requires first { slice_get text.now 0 ≡ Some first }
     requires no_line_end { is_line_end first ≡ false }
     ensures { AnswersToken result (visible text.now) }
 {
     match first {
         b'"' => {
-            let (word, rest) = take_quoted(alloc, past_first(text))?;
-            Ok((Token::CharData(word), rest))
+            let (word, rest) = take_quoted(past_first(text))?;
+            Ok((TokenRef::CharData(word), rest))
         }
         b'(' => {
             let (items, rest) = take_list(alloc, past_first(text))?;
-            Ok((Token::List(items), rest))
+            Ok((TokenRef::List(items), rest))
         }
         b')' => Err(ParseError::Lexer),
         _ => {
-            let (word, rest) = take_item(alloc, text)?;
+            let (word, rest) = take_item(text)?;
             Ok((token_of(word)?, rest))
         }
     }

@@ -1,11 +1,12 @@
 //! Character strings as zone text (RFC 1035, 5.1).
 
-ghost use Rattle.std.specs.Prelude.{◌≡◌, ◌++◌, [], ◌∷◌, Some, if◌then◌else◌};
+ghost use Rattle.std.specs.List.{flat_map};
+ghost use Rattle.std.specs.Prelude.{◌≡◌, ◌++◌, [], ◌∷◌, IfSome, IsTrue, Some, if◌then◌else◌};
 ghost use Rattle.base_data.specs.TXT.{string_byte, string_text, txt_text};
 
 use crate::rdata::txt::TXT;
 use base::name::first_label;
-use std::fmt;
+use std::{fmt, str};
 
 /// The text of a byte of a string.
 #[derive(Drop)]
@@ -21,6 +22,25 @@ impl fmt::Display for ByteText {
             b => write!(f, "\\{b:03}"),
         }
     }
+}
+
+/// Whether a byte prints as itself.
+fn is_plain(b: u8) -> bool
+    ensures { IsTrue result → string_byte b ≡ b ∷ [] }
+{
+    matches!(b, b' '..=b'~') && b != b'\\' && b != b'"'
+}
+
+/// The text of a string whose bytes all print as themselves, as those of most strings do.
+fn plain_text(string: &[u8]) -> Option<&str>
+    ensures { IfSome result (λ text. text.now ≡ flat_map string_byte string.now) }
+{
+    for b in string {
+        if !is_plain(*b) {
+            return None;
+        }
+    }
+    str::from_utf8(string).ok()
 }
 
 /// A space, or nothing.
@@ -42,8 +62,12 @@ impl<'a> fmt::Display for StringText<'a> {
 
     fn fmt<W: fmt::Write>(&self, f: &mut fmt::Formatter<W>) -> fmt::Result {
         f.write_str("\"")?;
-        for b in self.string {
-            fmt::Display::fmt(&ByteText(*b), f)?;
+        if let Some(text) = plain_text(self.string) {
+            f.write_str(text)?;
+        } else {
+            for b in self.string {
+                fmt::Display::fmt(&ByteText(*b), f)?;
+            }
         }
         write!(f, "\"{}", space_if(!self.is_last))
     }

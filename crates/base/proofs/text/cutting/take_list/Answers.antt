@@ -1,5 +1,4 @@
 use Rattle.std.proofs.Common.{rules}
-use Rattle.std.specs.String.{string_bytes}
 use Rattle.std.proofs.lemmas.List.{map-append}
 use Rattle.std.proofs.lemmas.Result.{err_from_is_err_and}
 use Rattle.base.proofs.texts.ListItems.{listing_more, listing_ends, listing_fails, next_shorter}
@@ -17,13 +16,13 @@ returns-in_default c = listing_ends c.in_ok-word.tail.now c.items.invariant.list
     (rw c.in_default.is at c.in_ok-word.ensures)
 
 pub items-smaller : goal.items-smaller
-items-smaller c = next_shorter c.items.rest.now (string_bytes c.in-Some.word) c.in_ok-word.tail.now
+items-smaller c = next_shorter c.items.rest.now c.in-Some.word.now c.in_ok-word.tail.now
     (rw c.in-Some.is at c.in_ok-word.ensures)
 
 pub items-preserved : goal.items-preserved
 items-preserved c = record {
   utf8 = search rules;
   listing = rw (c.in_ok-push.ensures.items, map-append)
-      (listing_more (string_bytes c.in-Some.word) c.in_ok-word.tail.now c.items.invariant.listing
+      (listing_more c.in-Some.word.now c.in_ok-word.tail.now c.items.invariant.listing
       (rw c.in-Some.is at c.in_ok-word.ensures));
 }

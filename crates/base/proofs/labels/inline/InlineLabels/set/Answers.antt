@@ -1,4 +1,4 @@
-use Rattle.std.proofs.Common.{◌≡◌, ◌∙◌, ◌++◌, ◌+◌, ◌-◌, ℕ, List, ap, length, take, arith}
+use Rattle.std.proofs.Common.{◌∙◌, ◌++◌, ◌+◌, ◌-◌, ℕ, List, ap, length, take, arith}
 use Rattle.std.proofs.lemmas.Slice.{take-put_mid}
 use Rattle.base.specs.names.StoredLabels.{StoredLabels}
 use Rattle.base.proofs.labels.inline.InlineLabels.set.Goals as goal

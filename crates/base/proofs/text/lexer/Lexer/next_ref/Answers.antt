@@ -3,9 +3,9 @@ use Rattle.std.specs.Prelude.{◌&&◌}
 use Rattle.base.specs.texts.Cuts.{TakesNone}
 use Rattle.base.specs.texts.Tokens.{Unread, begins_blank, next}
 use Rattle.base.proofs.texts.TakingLemmas.{next_visible, visible_takes}
-use Rattle.base.proofs.text.lexer.Lexer.next_token.Goals as goal
-use Rattle.base.proofs.text.lexer.Lexer.next_token.Goals.{else-self-via-then-self+else-begins_blank}
-use Rattle.base.proofs.text.lexer.Lexer.next_token.Goals.{else-self-via-else-self}
+use Rattle.base.proofs.text.lexer.Lexer.next_ref.Goals as goal
+use Rattle.base.proofs.text.lexer.Lexer.next_ref.Goals.{else-self-via-then-self+else-begins_blank}
+use Rattle.base.proofs.text.lexer.Lexer.next_ref.Goals.{else-self-via-else-self}
 
 pub returns-in_err-token-clause-certain : goal.returns-in_err-token-clause-certain
 returns-in_err-token-clause-certain c = λ none.
