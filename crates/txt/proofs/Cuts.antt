@@ -4,10 +4,10 @@ use Rattle.std.proofs.Common.{false}
 use Rattle.base.specs.texts.Cuts.{AnswersNext, Faults, Stays}
 use Rattle.base.specs.texts.TokenList.{Placed, Symbol, broken, first_place, followed, listing, symbol, symbol_of}
 use Rattle.base.specs.texts.TokenList.{symbols, text_from_next}
-use Rattle.base.specs.texts.Tokens.{Next, Unread, next, value_of}
+use Rattle.base.specs.texts.Tokens.{Next, Unread, next, lent_value}
 use Rattle.base.specs.declared.error.parse_error.ParseError.{ParseError}
 use Rattle.base.specs.declared.error.parse_error.ParseError.TheVariants as refusals
-use Rattle.base.specs.declared.text.token.Token.{Token}
+use Rattle.base.specs.declared.text.token.TokenRef.{TokenRef}
 use Rattle.base.proofs.Refusing.{Faults-through}
 use Rattle.base.proofs.texts.TokenLemmas.{symbols_are}
 
@@ -25,12 +25,12 @@ at_place : {from rest : List Placed} {found : Symbol} (left : ℕ) → from ≡ 
 at_place {from} {rest} {found} left is = is ∙ ap (λ (place : ℕ). (found, place) ∷ rest) (sym (ap first_place is))
 
 -- what the lexer read stood first, and what is read on after it
-abbrev pub StoodFirst : Result (Option Token) ParseError → List Placed → List Placed → Type 0
+abbrev pub StoodFirst : Result (Option TokenRef) ParseError → List Placed → List Placed → Type 0
 StoodFirst (Ok None) from to = (from ≡ []) × (to ≡ [])
-StoodFirst (Ok (Some t)) from to = from ≡ (symbol (value_of t), first_place from) ∷ to
+StoodFirst (Ok (Some t)) from to = from ≡ (symbol (lent_value t), first_place from) ∷ to
 StoodFirst (Err e) from to = Faults e (from ≡ (broken, first_place from) ∷ [])
 
-pub stood_first : (read : Result (Option Token) ParseError) (u v : Unread) → AnswersNext read v (next u)
+pub stood_first : (read : Result (Option TokenRef) ParseError) (u v : Unread) → AnswersNext lent_value read v (next u)
     → Stays read u v → StoodFirst read (symbols u) (symbols v)
 stood_first (Ok None) u v is stays = let none : symbols u ≡ [] = first u _ is in (none, ap symbols stays ∙ none)
 stood_first (Ok (Some t)) u v is stays = at_place (length (text_from_next u)) (first u _ is)

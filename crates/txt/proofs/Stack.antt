@@ -1,12 +1,12 @@
 -- The stack of texts that are open, against the recursion over entries.
-use Rattle.std.proofs.Common.{◌≡◌, ℕ, zero, suc, ◌+◌, ◌-◌, ◌<◌, ◌≤◌, List, [], ◌∷◌, ◌++◌, length, refl, ap, sym, ◌∙◌}
+use Rattle.std.proofs.Common.{Bor, ◌≡◌, ℕ, zero, suc, ◌+◌, ◌-◌, ◌<◌, ◌≤◌, List, [], ◌∷◌, ◌++◌, length, refl, ap, sym}
+use Rattle.std.proofs.Common.{◌∙◌}
 use Rattle.std.proofs.Common.{subst, arith, append_assoc, map, reverse, Option, Some, None, Result, Ok, Err}
 use Rattle.std.proofs.lemmas.List.{map-append, reverse-append}
 use Rattle.std.specs.Prelude.{option_map}
 use Rattle.std.specs.Str.{IsUtf8}
 use Rattle.std.specs.String.{string_bytes}
-use Rattle.std.specs.Prelude.{String, codes}
-use Rattle.std.specs.declared.alloc.Global.{Global}
+use Rattle.std.specs.Prelude.{codes}
 use Rattle.base.specs.texts.TextFaults.{Fault, not_found, says}
 use Rattle.base.specs.texts.TokenList.{Placed, followed, symbol, symbols, whole_text}
 use Rattle.base.specs.texts.Tokens.{Unread, at, blank, char_data, eol, include, list, origin_sign, ttl_sign}
@@ -144,7 +144,7 @@ entries_from from found is =
 
 -- an entry opens no text
 abbrev pub OpensNone : CutEntry → Type 0
-OpensNone e = (name : String Global) → e ≡ cut.Include name → ⊥
+OpensNone e = (name : Bor (List ℕ)) → e ≡ cut.Include name → ⊥
 
 -- the first entry, of which this is made, and then the others, where it opens no text
 applied : (from to : List Placed) (within : Within) (text : List ℕ) (s : ZoneState) (e : CutEntry)

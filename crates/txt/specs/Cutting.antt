@@ -1,9 +1,9 @@
 -- The entries that are cut off a text, as those of the definition.
-use Rattle.std.specs.Prelude.{◌≡◌, ℕ, List, [], ◌∷◌, Option, Some, None, Result, Ok, Err, String}
+use Rattle.std.specs.Prelude.{◌≡◌, ℕ, List, [], ◌∷◌, Option, Some, None, Result, Ok, Err, map}
+use Rattle.std.specs.Borrow.{Bor}
 use Rattle.std.specs.String.{string_bytes}
-use Rattle.std.specs.declared.alloc.Global.{Global}
 use Rattle.base.specs.texts.TokenList.{Placed, Symbol, broken, first_place, symbol}
-use Rattle.base.specs.texts.Tokens.{texts, value_of}
+use Rattle.base.specs.texts.Tokens.{lent_value}
 use Rattle.txt.specs.Entries.{
   Body,
   Entry,
@@ -45,7 +45,7 @@ use Rattle.txt.specs.declared.zone.entry.Symbol.TheVariants as cuts
 
 -- a symbol
 abbrev pub symbol_value : CutSymbol → Symbol
-symbol_value (cuts.Token t) = symbol (value_of t)
+symbol_value (cuts.Token t) = symbol (lent_value t)
 symbol_value cuts.Broken = broken
 
 -- an end
@@ -55,7 +55,7 @@ stop_value (stops.Refused other) = refused (symbol_value other)
 
 -- an owner
 abbrev pub owner_value : CutOwner → Owner
-owner_value (owners.Named text) = named (string_bytes text)
+owner_value (owners.Named text) = named text.now
 owner_value owners.Origin = at_origin
 owner_value owners.Same = same
 
@@ -72,14 +72,14 @@ settings_value stated = record { ttl = stated.ttl; dns_class = stated.dns_class 
 abbrev pub body_value : CutBody → Body
 body_value (bodies.Untyped stop) = untyped (stop_value stop)
 body_value (bodies.Typed word items stop) =
-    typed (string_bytes word) (texts items.items) (stop_value stop)
+    typed (string_bytes word) (map (λ item. item.now) items.items) (stop_value stop)
 
 -- an entry
 abbrev pub entry_value : CutEntry → Entry
 entry_value cut.Nothing = nothing
-entry_value (cut.Origin text) = origin_entry (string_bytes text)
-entry_value (cut.Ttl text) = ttl_entry (string_bytes text)
-entry_value (cut.Include name) = include_entry (string_bytes name)
+entry_value (cut.Origin text) = origin_entry text.now
+entry_value (cut.Ttl text) = ttl_entry text.now
+entry_value (cut.Include name) = include_entry name.now
 entry_value cut.IncludeUnder = include_under
 entry_value (cut.Line owner stated body) =
     owner_line (owner_value owner) (settings_value stated) (body_value body)
@@ -88,7 +88,7 @@ entry_value (cut.Faulty other) = faulty_entry (symbol_value other)
 -- What stands next is this, before what is read on from; or nothing does.
 abbrev pub ReadsSymbol : Option CutSymbol → List Placed → List Placed → Type 0
 ReadsSymbol None from to = (from ≡ []) × (to ≡ [])
-ReadsSymbol (Some (cuts.Token t)) from to = from ≡ (symbol (value_of t), first_place from) ∷ to
+ReadsSymbol (Some (cuts.Token t)) from to = from ≡ (symbol (lent_value t), first_place from) ∷ to
 ReadsSymbol (Some cuts.Broken) from to = from ≡ (broken, first_place from) ∷ []
 
 -- what is read on after such an end: nothing after a token that has no place
@@ -117,10 +117,10 @@ found_first None to = None
 found_first (Some e) to = Some (cut_off e to)
 
 -- What the item that an entry needs makes of it is this: the item, or the entry that ends before it.
-abbrev pub FindsItem : Result (String Global) CutEntry → List Placed → List Placed → Type 0
+abbrev pub FindsItem : Result (Bor (List ℕ)) CutEntry → List Placed → List Placed → Type 0
 FindsItem (Ok word) from to =
     (entry : List ℕ → List Placed → Entry × List Placed)
-    → with_item entry from ≡ entry (string_bytes word) to
+    → with_item entry from ≡ entry word.now to
 FindsItem (Err e) from to =
     (entry : List ℕ → List Placed → Entry × List Placed)
     → with_item entry from ≡ cut_off e to

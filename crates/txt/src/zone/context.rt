@@ -74,17 +74,17 @@ impl Context {
     ///
     /// The fault of the entry; `Memory` if memory runs out.
     #[tactic(auto, unfolding(crate::specs::Zone::apply))]
-    pub(super) fn apply(&mut self, entry: Entry) -> Result<(), ParseError>
-        ensures { Gives (λ _. self.new) result (apply self.old (entry_value entry)) }
+    pub(super) fn apply(&mut self, entry: Entry<'_>) -> Result<(), ParseError>
+        ensures { Gives (λ _. self.new) result (apply self.old (entry_value entry.entry)) }
     {
         match entry {
             Entry::Nothing => Ok(()),
             Entry::Origin(text) => {
-                self.origin = Some(Name::parse(self.alloc, text.as_str(), None)?);
+                self.origin = Some(Name::parse(self.alloc, text, None)?);
                 Ok(())
             }
             Entry::Ttl(text) => {
-                let Ok(ttl) = parse_ttl(text.as_str()) else {
+                let Ok(ttl) = parse_ttl(text) else {
                     return Err(ParseError::BadTtl);
                 };
                 self.default_ttl = Some(ttl);
@@ -99,17 +99,17 @@ impl Context {
                 self.settle(settings);
                 self.carry_out(body)
             }
-            Entry::Faulty(other) => Err(other.into_fault()),
+            Entry::Faulty(other) => Err(other.fault(self.alloc)),
         }
     }
 
     /// The owner of a line: a name, the origin, or the last owner.
-    fn set_owner(&mut self, owner: Owner) -> Result<(), ParseError>
-        ensures { Gives (λ _. self.new) result (owned self.old (owner_value owner)) }
+    fn set_owner(&mut self, owner: Owner<'_>) -> Result<(), ParseError>
+        ensures { Gives (λ _. self.new) result (owned self.old (owner_value owner.entry)) }
     {
         match owner {
             Owner::Named(text) => {
-                let name = Name::parse(self.alloc, text.as_str(), self.origin.as_ref())?;
+                let name = Name::parse(self.alloc, text, self.origin.as_ref())?;
                 self.owner = Some(name);
             }
             Owner::Origin => self.owner = self.copy_origin()?,
@@ -127,15 +127,15 @@ impl Context {
     }
 
     /// What stands after the settings of a line: nothing, or a record.
-    fn carry_out(&mut self, body: Body) -> Result<(), ParseError>
-        ensures { Gives (λ _. self.new) result (carried self.old (body_value body)) }
+    fn carry_out(&mut self, body: Body<'_>) -> Result<(), ParseError>
+        ensures { Gives (λ _. self.new) result (carried self.old (body_value body.entry)) }
     {
         match body {
-            Body::Untyped(stop) => end_at(stop),
+            Body::Untyped(stop) => end_at(self.alloc, &stop),
             Body::Typed(word, items, stop) => {
                 let record_type = self.type_of_text(word)?;
-                end_at(stop)?;
-                let rdata = self.parse_data(record_type, &items)?;
+                end_at(self.alloc, &stop)?;
+                let rdata = self.data_of(record_type, &items)?;
                 self.add_record(rdata)
             }
         }
@@ -155,18 +155,6 @@ impl Context {
     }
 
     /// The data of a type that items name, under the origin.
-    fn parse_data(&self, record_type: RecordType, items: &[String]) -> Result<RData, ParseError>
-        ensures { Gives (λ d. d) result (data_in self.now record_type (texts items.now)) }
-    {
-        // The data of most records is one item, which needs no list of its own.
-        if let [item] = items {
-            return self.data_of(record_type, &[item.as_str()]);
-        }
-        let texts = texts_of(self.alloc, items)?;
-        self.data_of(record_type, &texts)
-    }
-
-    /// The data of a type that texts name, under the origin.
     fn data_of(&self, record_type: RecordType, items: &[&str]) -> Result<RData, ParseError>
         ensures { Gives (λ d. d) result
             (data_in self.now record_type (map (λ item. item.now) items.now)) }
@@ -269,22 +257,11 @@ fn make_absolute(mut name: Name) -> Name
 }
 
 /// The fault that an entry ends with, if it ends with one.
-fn end_at(stop: Stop) -> Result<(), ParseError>
-    ensures { (s : ZoneState) → Gives (λ _. s) result (stopped s (stop_value stop)) }
+fn end_at(alloc: Global, stop: &Stop<'_>) -> Result<(), ParseError>
+    ensures { (s : ZoneState) → Gives (λ _. s) result (stopped s (stop_value stop.now)) }
 {
     match stop {
         Stop::Whole => Ok(()),
-        Stop::Refused(other) => Err(other.into_fault()),
+        Stop::Refused(other) => Err(other.fault(alloc)),
     }
-}
-
-/// The text of each item.
-fn texts_of(alloc: Global, items: &[String]) -> Result<Vec<&str>, AllocError>
-    ensures { IfOk result (λ lent. map (λ text. text.now) lent.items ≡ texts items.now) }
-{
-    let mut lent = Vec::new(alloc);
-    for item in items {
-        lent.push(item.as_str())?;
-    }
-    Ok(lent)
 }

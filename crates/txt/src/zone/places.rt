@@ -6,15 +6,19 @@ ghost use Rattle.base.specs.texts.TokenList.{symbols};
 ghost use Rattle.txt.specs.Places.{ends_line, fault_place, include_place, place_after_items, place_after_name, place_in_line, position};
 
 use crate::zone::entry::{Symbol, next_symbol, setting_of};
-use base::{Lexer, ParseError, Token};
-use std::alloc::AllocError;
+use base::{Lexer, ParseError, TokenRef};
+use std::alloc::{AllocError, Global};
 
 /// The place of the fault of an entry, where a lexer stands before it: how many bytes of the text stand from there on.
 ///
 /// # Errors
 ///
 /// If memory runs out.
-pub(super) fn fault_place(error: &ParseError, lexer: Lexer<'_>) -> Result<usize, AllocError>
+pub(super) fn fault_place(
+    alloc: Global,
+    error: &ParseError,
+    lexer: Lexer<'_>,
+) -> Result<usize, AllocError>
     ensures { IfOk result (λ left. (fault : Fault) → fault_of error.now ≡ Some fault
         → left ≡ fault_place fault (symbols lexer.entry)) }
 {
@@ -22,16 +26,16 @@ pub(super) fn fault_place(error: &ParseError, lexer: Lexer<'_>) -> Result<usize,
     let left = lexer.left();
     let misplaced = matches!(error, ParseError::UnexpectedToken(_) | ParseError::Lexer);
     match next_symbol(&mut lexer)? {
-        Some(Symbol::Token(Token::Origin)) => Ok(lexer.left()),
-        Some(Symbol::Token(Token::Ttl)) => Ok(lexer.left()),
-        Some(Symbol::Token(Token::Include)) => place_after_name(lexer),
-        Some(Symbol::Token(Token::Blank)) => place_in_line(misplaced, lexer),
-        Some(Symbol::Token(Token::At)) => place_in_line(misplaced, lexer),
-        Some(Symbol::Token(Token::CharData(_))) => {
+        Some(Symbol::Token(TokenRef::Origin)) => Ok(lexer.left()),
+        Some(Symbol::Token(TokenRef::Ttl)) => Ok(lexer.left()),
+        Some(Symbol::Token(TokenRef::Include)) => place_after_name(lexer),
+        Some(Symbol::Token(TokenRef::Blank)) => place_in_line(alloc, misplaced, lexer),
+        Some(Symbol::Token(TokenRef::At)) => place_in_line(alloc, misplaced, lexer),
+        Some(Symbol::Token(TokenRef::CharData(_))) => {
             if matches!(error, ParseError::BadName) {
                 return Ok(left);
             }
-            place_in_line(misplaced, lexer)
+            place_in_line(alloc, misplaced, lexer)
         }
         _ => Ok(left),
     }
@@ -59,21 +63,21 @@ fn place_after_name(lexer: Lexer<'_>) -> Result<usize, AllocError>
     let mut lexer = lexer;
     let left = lexer.left();
     match next_symbol(&mut lexer)? {
-        Some(Symbol::Token(Token::CharData(_))) => Ok(lexer.left()),
+        Some(Symbol::Token(TokenRef::CharData(_))) => Ok(lexer.left()),
         _ => Ok(left),
     }
 }
 
 /// After an owner: the place of the token that has none, where the fault is that there is one, else that of the type.
-fn place_in_line(misplaced: bool, lexer: Lexer<'_>) -> Result<usize, AllocError>
+fn place_in_line(alloc: Global, misplaced: bool, lexer: Lexer<'_>) -> Result<usize, AllocError>
     ensures { IfOk result (λ left. left ≡ place_in_line misplaced (symbols lexer.entry)) }
 {
     let mut lexer = lexer;
     'words: loop {
         let left = lexer.left();
         match next_symbol(&mut lexer)? {
-            Some(Symbol::Token(Token::CharData(word))) => {
-                if setting_of(word).is_ok() {
+            Some(Symbol::Token(TokenRef::CharData(word))) => {
+                if setting_of(alloc, word)?.is_ok() {
                     continue;
                 }
                 if misplaced {
@@ -94,8 +98,8 @@ fn place_after_items(lexer: Lexer<'_>) -> Result<usize, AllocError>
     'items: loop {
         let left = lexer.left();
         match next_symbol(&mut lexer)? {
-            Some(Symbol::Token(Token::CharData(_))) => continue,
-            Some(Symbol::Token(Token::List(_))) => continue,
+            Some(Symbol::Token(TokenRef::CharData(_))) => continue,
+            Some(Symbol::Token(TokenRef::List(_))) => continue,
             _ => return Ok(left),
         }
     }

@@ -73,6 +73,7 @@ pub(super) fn read_texts<'a>(
                         place: Some(place),
                     });
                 }
+                let name = String::from_str(alloc, name)?;
                 let Some(included) = includes.get(name.as_str()) else {
                     let place = place_in(alloc, below, text, left)?;
                     return Err(ZoneFault {
@@ -96,7 +97,7 @@ pub(super) fn read_texts<'a>(
                 Err(error) => match error {
                     ParseError::Memory => return Err(ZoneFault::from(AllocError)),
                     fault => {
-                        let left = fault_place(&fault, start)?;
+                        let left = fault_place(alloc, &fault, start)?;
                         let place = place_in(alloc, below, text, left)?;
                         return Err(ZoneFault {
                             error: fault,

@@ -58,33 +58,37 @@ pub returns-then-len-ge-MAX_DEPTH : goal.returns-then-len-ge-MAX_DEPTH
 returns-then-len-ge-MAX_DEPTH c =
     let found = rw c.in-Include.is at (rw c.in-Some.is at c.in_ok-entry.ensures) in
     let here : c.in_ok-left-in-Include.left ≡ include_place (symbols c.entries.lexer) = search rules in
-    remains_deep c.entries.invariant (string_bytes c.in-Include.name) (symbols c.next_entry.new.lexer) found
+    remains_deep c.entries.invariant c.in-Include.name.now (symbols c.next_entry.new.lexer) found
     (omega (arith, length-reverse c.entries.below.items))
     ∙ ap Err (stands_at c.entries.below.items _ _ c.in_ok-place-in-Include.place c.in_ok-place-in-Include.ensures _ _
     here)
 
 pub returns-in_default-get : goal.returns-in_default-get
 returns-in_default-get c =
-    let found = rw c.in-Include.is at (rw c.in-Some.is at c.in_ok-entry.ensures) in
+    let name = string_bytes c.in_ok-name-in-Include.name in
+    let same : c.in-Include.name.now ≡ name = search rules in
+    let found = rw same at (rw c.in-Include.is at (rw c.in-Some.is at c.in_ok-entry.ensures)) in
     let here : c.in_ok-left-in-Include.left ≡ include_place (symbols c.entries.lexer) = search rules in
-    let missing : texts_in c.args.includes.now (string_bytes c.in-Include.name) ≡ None = search rules in
-    remains_missing c.entries.invariant (string_bytes c.in-Include.name) (symbols c.next_entry.new.lexer) found
+    let missing : texts_in c.args.includes.now name ≡ None = search rules in
+    remains_missing c.entries.invariant name (symbols c.next_entry.new.lexer) found
     (omega (arith, length-reverse c.entries.below.items)) missing
     ∙ ap Err (stands_at c.entries.below.items _ _ c.in_ok-place-in-Include-2.place
     c.in_ok-place-in-Include-2.ensures _ _ here)
 
 pub entries-smaller-in-Include : goal.entries-smaller-in-Include
 entries-smaller-in-Include c =
-    let found = rw c.in-Include.is at (rw c.in-Some.is at c.in_ok-entry.ensures) in
+    let name = string_bytes c.in_ok-name-in-Include.name in
+    let same : c.in-Include.name.now ≡ name = search rules in
+    let found = rw same at (rw c.in-Include.is at (rw c.in-Some.is at c.in_ok-entry.ensures)) in
     let f : Frame = record {
       text = c.entries.text;
       lexer = c.next_entry.new.lexer;
       origin =
           c.in_ok-origin-in-Include.origin;
-      name = c.in-Include.name;
+      name = c.in_ok-name-in-Include.name;
       left = c.in_ok-left-in-Include.left;
     } in
-    let text : texts_in c.args.includes.now (string_bytes c.in-Include.name) ≡ Some c.as_str-text.result.now =
+    let text : texts_in c.args.includes.now name ≡ Some c.as_str-text.result.now =
     search rules in
     let stack : reverse c.push.new.self.items ≡ f ∷ reverse c.entries.below.items =
     ap reverse c.in_ok-push-in-Include.ensures.items ∙ reverse-append c.entries.below.items (f ∷ []) in
@@ -94,22 +98,24 @@ entries-smaller-in-Include c =
 
 pub entries-preserved-in-Include : goal.entries-preserved-in-Include
 entries-preserved-in-Include c =
-    let found = rw c.in-Include.is at (rw c.in-Some.is at c.in_ok-entry.ensures) in
+    let name = string_bytes c.in_ok-name-in-Include.name in
+    let same : c.in-Include.name.now ≡ name = search rules in
+    let found = rw same at (rw c.in-Include.is at (rw c.in-Some.is at c.in_ok-entry.ensures)) in
     let f : Frame = record {
       text = c.entries.text;
       lexer = c.next_entry.new.lexer;
       origin = c.in_ok-origin-in-Include.origin;
-      name = c.in-Include.name;
+      name = c.in_ok-name-in-Include.name;
       left = c.in_ok-left-in-Include.left;
     } in
-    let text : texts_in c.args.includes.now (string_bytes c.in-Include.name) ≡ Some c.as_str-text.result.now =
+    let text : texts_in c.args.includes.now name ≡ Some c.as_str-text.result.now =
     search rules in
     let here : c.in_ok-left-in-Include.left ≡ include_place (symbols c.entries.lexer) = search rules in
     let stack : reverse c.push.new.self.items ≡ f ∷ reverse c.entries.below.items =
     ap reverse c.in_ok-push-in-Include.ensures.items ∙ reverse-append c.entries.below.items (f ∷ []) in
-    let same : c.in_ok-origin-in-Include.origin ≡ c.entries.context.origin = cc c.in_ok-origin-in-Include.ensures in
+    let origin : c.in_ok-origin-in-Include.origin ≡ c.entries.context.origin = cc c.in_ok-origin-in-Include.ensures in
     remains_opened c.entries.invariant f c.as_str-text.result.now (reverse c.push.new.self.items)
-    c.new-lexer-in-Include.result stack c.new-lexer-in-Include.ensures refl found here same
+    c.new-lexer-in-Include.result stack c.new-lexer-in-Include.ensures refl found here origin
     (omega (arith, length-reverse c.entries.below.items)) text (search rules)
 
 pub returns-in_default-error : goal.returns-in_default-error
