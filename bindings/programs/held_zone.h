@@ -26,10 +26,11 @@ struct held_zone {
     size_t name_len;
 };
 
-/* Opens the zone of a file, and carries out the updates of the journal again; or stops the server. */
+/* Opens the zone of a file and of those that it includes, and carries out the updates of the journal again; or stops the
+ * server. */
 void held_open(struct held_zone *held, const char *path, const char *origin, const char *journal);
 
-/* The code of an update. With NoError it is carried out, and stands in the journal if it has any change; with another, or
+/* The code of an update. With NoError it is carried out, and stands in the journal if it changed anything; with another, or
  * where it finds no room or no memory, neither. So a replay comes to the same zone. */
 int held_update(struct held_zone *held, const uint8_t *update, size_t len);
 
