@@ -8,7 +8,7 @@
 #include <string.h>
 
 /* codes of RFC 1035, 4.1.1, and of RFC 2136, 2.2 */
-enum { NO_ERROR = 0, FORM_ERR = 1, SERV_FAIL = 2, NOT_IMP = 4, REFUSED = 5, NOT_AUTH = 9 };
+enum { FORM_ERR = 1, SERV_FAIL = 2, NOT_IMP = 4, REFUSED = 5, NOT_AUTH = 9 };
 /* how many bytes a header has, and a name at most, and a query for the zone's SOA */
 enum { HEADER = 12, LONGEST_NAME = 255, ASKING = HEADER + LONGEST_NAME + 4 };
 enum { TYPE_SOA = 6, CLASS_IN = 1 };

@@ -8,8 +8,8 @@ silence, and there are few connections for each address and in all.
 Updates and transfers are taken by TCP alone, since anybody may forge where a datagram comes from, and from the addresses
 that are named. No signature is checked: a message with TSIG or SIG(0) is answered NotAuth. An update is synced to the
 journal before it is carried out, and answered after that; at the start those of the journal are carried out again. The
-journal belongs to the zone file that it began with, and only grows: to begin anew, take it away when you put another file
-there, as the zone that a transfer brought.
+journal belongs to the zone file that it began with and those that this includes, which are read by their names as they
+stand, and only grows: to begin anew, take it away when you put another file there, as the zone that a transfer brought.
 
 The SOA's serial is raised by each update that changes anything (RFC 2136, 3.6), and not by one that adds what the zone has
 already. Then, and at the start, the secondaries that are named are told by NOTIFY (RFC 1996). IXFR gets the whole zone, or its
@@ -31,7 +31,7 @@ import socket
 import struct
 import sys
 import time
-from typing import Deque, Dict, List, Optional, Set, Tuple, Union
+from typing import Deque, List, Optional, Set, Tuple, Union
 
 sys.path.insert(0, os.path.join(os.path.dirname(os.path.realpath(__file__)), "../python"))
 import fuzsbanel  # noqa: E402
@@ -40,7 +40,7 @@ from journal import Journal, Stop, warn  # noqa: E402
 SOA, SIG, TSIG, IXFR, AXFR, ANY = 6, 24, 250, 251, 252, 255
 QUERY, STATUS, NOTIFY, UPDATE = 0, 2, 4, 5
 ANSWER, AUTHORITY = 1, 2
-NO_ERROR, FORM_ERR, SERV_FAIL, NOT_IMP, REFUSED, NOT_AUTH = 0, 1, 2, 4, 5, 9
+FORM_ERR, SERV_FAIL, NOT_IMP, REFUSED, NOT_AUTH = 1, 2, 4, 5, 9
 # the refusal of zone text that includes a text which isn't handed in
 NO_INCLUDE = 20
 # how many bytes of a datagram pass any network (RFC 9715, 3), the most of a message, and its header

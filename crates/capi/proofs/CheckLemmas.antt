@@ -1,6 +1,6 @@
 -- What the check of zone text tells.
 use Rattle.std.proofs.Common.{◌≡◌, ◌⊎◌, ◌∙◌, ◌++◌, ◌+◌, ◌<◌, ℕ, List, [], ◌∷◌, ap, drop, get_or, length, refl, sym}
-use Rattle.std.proofs.Common.{take, Option, Some, Ok, Err, Result, Bool, true, false, cond, inl, inr}
+use Rattle.std.proofs.Common.{take, None, Option, Some, Ok, Err, Result, Bool, true, false, cond, inl, inr}
 use Rattle.std.proofs.lemmas.List.{drop_more, map-append}
 use Rattle.std.specs.BTreeMap.{BTreeMap, get_by_text}
 use Rattle.std.specs.Map.{update}
@@ -10,10 +10,11 @@ use Rattle.std.specs.String.{string_bytes}
 use Rattle.std.specs.declared.alloc.Global.{Global}
 use Rattle.base.specs.ParseError.{parse_number}
 use Rattle.base.specs.names.Labels.{NameValue}
-use Rattle.base.specs.texts.TextFaults.{FailsWith, Fault}
-use Rattle.base.specs.declared.error.parse_error.ParseError.TheVariants as faults
+use Rattle.base.specs.texts.TextFaults.{FailsBy, FailsWith, Fault, fault_of}
 use Rattle.base.specs.declared.error.parse_error.ParseError.{ParseError}
-use Rattle.parsed_zone.specs.Faults.{numbered}
+use Rattle.parsed_zone.proofs.TextLemmas.{number_told}
+use Rattle.parsed_zone.specs.Faults.{HasFault, by_number, in_text, numbered, of_text}
+use Rattle.parsed_zone.specs.declared.refusal.ZoneRefusal.TheVariants as refusals
 use Rattle.txt.proofs.TextsLemmas.{texts_are}
 use Rattle.txt.specs.Faults.{inclusion_value}
 use Rattle.txt.specs.Parser.{ParserValue, named_texts, text_among, texts_in}
@@ -116,18 +117,21 @@ zone_parsed generic origin text includes p is =
     ∙ ap (λ (q : ParserValue). placed_zone_by generic (text_among q.includes) q.origin q.text) (sym is)
 
 -- a refusal of the parser has the number of its fault
-pub parser_refused : {A : Type 0} (e : ParseError) (made : Result A Fault) → FailsWith e made
+parser_refused : {A : Type 0} (e : ParseError) (made : Result A Fault) → FailsWith e made
     → (parse_number e ≡ 3) ⊎ (numbered made ≡ Err (parse_number e))
-parser_refused faults.Memory made is = inl refl
-parser_refused (faults.UnexpectedToken t) made is = inr (ap numbered is)
-parser_refused faults.Lexer made is = inr (ap numbered is)
-parser_refused (faults.Message text) made is = inr (ap numbered is)
-parser_refused (faults.IncludeNotFound name) made is = inr (ap numbered is)
-parser_refused (faults.UnknownRecordType text) made is = inr (ap numbered is)
-parser_refused (faults.UnsupportedRecordType type) made is = inr (ap numbered is)
-parser_refused (faults.BadData type) made is = inr (ap numbered is)
-parser_refused faults.BadName made is = inr (ap numbered is)
-parser_refused faults.BadTtl made is = inr (ap numbered is)
+parser_refused {A} e made fails = go (number_told (refusals.Parse e) (of_text made) (named (fault_of e) fails)) where
+  named : (fault : Option Fault) → FailsBy fault made → HasFault (option_map in_text fault) (of_text made)
+  named None is = tt
+  named (Some fault) is = ap of_text is
+
+  same : (result : Result A Fault) → numbered result ≡ by_number (of_text result)
+  same (Ok x) = refl
+  same (Err fault) = refl
+
+  go : (parse_number e ≡ 3) ⊎ (by_number (of_text made) ≡ Err (parse_number e))
+      → (parse_number e ≡ 3) ⊎ (numbered made ≡ Err (parse_number e))
+  go (inl memory) = inl memory
+  go (inr is) = inr (same made ∙ is)
 
 -- the zone of an origin and a text, by what was made of the words of a call
 pub zone_is : (origin text : List ℕ) (included : List Included) (bytes : List ℕ) (zone : NameValue) (chars : List ℕ)
