@@ -342,16 +342,21 @@ struct fuzsbanel_zone_handle {
 };
 
 /* Opens the handle at the zone `origin`, whose records are those of the text, and answers 0; what the handle held before is
- * freed. An `$ORIGIN` of the text says how its names end, and never which zone it is. Refuses as fuzsbanel_zone does, with
- * 26, and with 25 for a zone of another class than IN; the handle then holds what it held. */
+ * freed. An `$ORIGIN` of the text says how its names end, and never which zone it is. The texts that it may include are
+ * handed in as to fuzsbanel_zone_check. Refuses as fuzsbanel_zone does, with 26, and with 25 for a zone of another class
+ * than IN; the handle then holds what it held. */
 int64_t fuzsbanel_zone_open(const uint8_t *origin, size_t origin_len, const uint8_t *text, size_t text_len,
-                            struct fuzsbanel_zone_handle *handle);
+                            const struct fuzsbanel_included *included, size_t included_len, const uint8_t *bytes,
+                            size_t bytes_len, struct fuzsbanel_zone_handle *handle);
 
-/* Carries out an update message in the zone, and answers the code of RFC 2136, 2.2: 0 is NoError, and the zone is changed
- * (RFC 2136, 3). With any other code, and where it refuses, each record stays as it was. What it costs depends on what the
- * update names, and not on the zone's size. Whether the message is an update, whoever sent it, is the caller's to ask, and
- * so is the SOA's serial, which stays. Refuses with 34, and as fuzsbanel_check does. */
-int64_t fuzsbanel_zone_update(struct fuzsbanel_zone_handle *handle, const uint8_t *update, size_t update_len);
+/* Carries out an update message in the zone, and answers the code of RFC 2136, 2.2: 0 is NoError, and the update is carried
+ * out (RFC 2136, 3). With any other code, and where it refuses, each record stays as it was. `*is_changed` is set: to true
+ * exactly where some set is another than before, in any field, so that an update that adds what is there, or undoes what it
+ * does, changes nothing. What it costs depends on what the update names, and not on the zone's size. Whether the message is
+ * an update, whoever sent it, is the caller's to ask, and so is the SOA's serial, which stays: a server raises it where the
+ * zone is changed (RFC 2136, 3.6). Refuses with 34, and as fuzsbanel_check does. */
+int64_t fuzsbanel_zone_update(struct fuzsbanel_zone_handle *handle, const uint8_t *update, size_t update_len,
+                              bool *is_changed);
 
 /* Writes the zone as fuzsbanel_zone writes one: a handle opened at this text, with the same origin, holds the same records.
  * Refuses with 34, and with 33 where updates left an owner with two ANAME records. */
@@ -367,7 +372,8 @@ int64_t fuzsbanel_zone_answer(struct fuzsbanel_zone_handle *handle, const uint8_
 
 /* Raises the serial of the zone's SOA by one, modulo 2^32 (RFC 1982, 3.1), as a server does after an update (RFC 2136, 3.6),
  * and answers the new serial. It takes no memory, and so never refuses with 3, but for a zone that another handle holds too.
- * Refuses with 34, and with 35 for a zone that hasn't exactly one record as its SOA. */
+ * After fuzsbanel_zone_open, after an update that was answered with a code, and after this call, none does until
+ * fuzsbanel_zone_share. Refuses with 34, and with 35 for a zone that hasn't exactly one record as its SOA. */
 int64_t fuzsbanel_zone_raise_serial(struct fuzsbanel_zone_handle *handle);
 
 /* Where the next message of a zone transfer begins. It begins as `struct fuzsbanel_transfer_place place = {0};`, at the

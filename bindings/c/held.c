@@ -15,16 +15,22 @@
 _Static_assert(sizeof(struct fuzsbanel_zone_handle) == 16, "a handle has 16 bytes");
 _Static_assert(sizeof(struct fuzsbanel_transfer_place) == 272, "a place has 272 bytes");
 
-static const char first_zone[] = "@ 3600 SOA ns hostmaster 1 2 3 4 5\n@ 3600 NS ns\nns 60 A 192.0.2.1\n";
+static const char first_zone[] = "@ 3600 SOA ns hostmaster 1 2 3 4 5\n@ 3600 NS ns\n$INCLUDE hosts\n";
+/* a text that zone text may include, after its name, and how long both are */
+#define NAME "hosts"
+static const char hosts[] = NAME "ns 60 A 192.0.2.1\n";
+static const struct fuzsbanel_included included[] = {{sizeof NAME - 1, sizeof hosts - sizeof NAME}};
+#define INCLUDED included, 1, TEXT(hosts)
 
 /* Carries out an update of so many bytes, or tells why there is none. */
 static void update(struct fuzsbanel_zone_handle *zone, const uint8_t *bytes, int64_t len)
 {
-    int64_t code = len < 0 ? len : fuzsbanel_zone_update(zone, bytes, (size_t)len);
+    bool is_changed = false;
+    int64_t code = len < 0 ? len : fuzsbanel_zone_update(zone, bytes, (size_t)len, &is_changed);
     if (code < 0)
         printf("refused %" PRId64 "\n", -code);
     else
-        printf("code %" PRId64 "\n", code);
+        printf("code %" PRId64 "%s\n", code, is_changed ? ", changed" : "");
 }
 
 /* The text of the zone, for the caller to free, or nothing where there is none. */
@@ -69,17 +75,19 @@ int main(void)
     uint8_t bytes[512] = {0};
     size_t needed;
     update(&zone, bytes, 0); /* a closed handle */
-    if (fuzsbanel_zone_open(TEXT(ORIGIN), TEXT(first_zone), &zone) != 0)
+    if (fuzsbanel_zone_open(TEXT(ORIGIN), TEXT(first_zone), INCLUDED, &zone) != 0)
         return 1;
     const char *www = "www 300 A 192.0.2.2\n";
     for (int i = 0; i < 2; i++) /* the second finds the set */
         update(&zone, bytes, fuzsbanel_create(1, TEXT(ORIGIN), TEXT(www), false, bytes, sizeof bytes, &needed));
-    update(&zone, bytes,
-           fuzsbanel_append(2, TEXT(ORIGIN), TEXT("www 60 A 192.0.2.3\n"), true, false, bytes, sizeof bytes, &needed));
+    for (int i = 0; i < 2; i++) /* the second changes nothing */
+        update(&zone, bytes,
+               fuzsbanel_append(2, TEXT(ORIGIN), TEXT("www 60 A 192.0.2.3\n"), true, false, bytes, sizeof bytes, &needed));
     update(&zone, bytes,
            fuzsbanel_delete_rrset(3, TEXT(ORIGIN), TEXT("ns"), TYPE_A, false, bytes, sizeof bytes, &needed));
     update(&zone, bytes, 11); /* cut off within its header */
-    if (fuzsbanel_zone_open(TEXT(ORIGIN), TEXT("www 300 A"), &zone) >= 0) /* refused: the handle holds what it held */
+    /* refused: the handle holds what it held */
+    if (fuzsbanel_zone_open(TEXT(ORIGIN), TEXT("www 300 A"), INCLUDED, &zone) >= 0)
         return 1;
     /* www.example., an address: the answer to what a client sends in a datagram */
     static const uint8_t query[] = "\0\x09\1\0\0\1\0\0\0\0\0\0\3www\7example\0\0\1\0\1";
@@ -103,7 +111,7 @@ int main(void)
     printf("%s\n", strstr(kept, "ftp") ? "shared with its changes" : "shared as it was");
     free(kept);
     fuzsbanel_zone_close(&reader);
-    int64_t opened = fuzsbanel_zone_open(TEXT(ORIGIN), TEXT(text), &zone); /* what it held is freed */
+    int64_t opened = fuzsbanel_zone_open(TEXT(ORIGIN), TEXT(text), INCLUDED, &zone); /* what it held is freed */
     char *again = opened == 0 ? text_of(&zone) : NULL;
     printf("%s\n", again && strcmp(text, again) == 0 ? "the same again" : "another zone");
     free(text);

@@ -47,7 +47,12 @@ static const char first_zone[] = "@ 3600 SOA ns hostmaster 1 2 3 4 5\n@ 3600 NS 
                                  "a.long.label.that.has.its.own.memory 60 TXT \"some text\"\nwww 300 A 192.0.2.9\n"
                                  "@ 60 MX 10 a.mail.host.of.more.than.thirty.bytes\n@ 60 MX 20 www\n"
                                  "a.mail.host.of.more.than.thirty.bytes 60 A 192.0.2.8\n";
-static const char other_zone[] = "@ 60 NS ns.of.a.name.of.more.than.thirty.bytes\n@ 60 MX 1 mail\n";
+static const char other_zone[] = "@ 60 NS ns.of.a.name.of.more.than.thirty.bytes\n$INCLUDE mail.hosts\n";
+/* a text that zone text may include, after its name, and how long both are */
+#define NAME "mail.hosts"
+static const char hosts[] = NAME "@ 60 MX 1 mail\n";
+static const struct fuzsbanel_included included[] = {{sizeof NAME - 1, sizeof hosts - sizeof NAME}};
+#define INCLUDED included, 1, TEXT(hosts)
 static uint8_t updates[4][512];
 static int64_t lengths[4];
 
@@ -69,10 +74,12 @@ static int64_t made(enum call call, int i, struct fuzsbanel_zone_handle *zone, s
 {
     switch (call) {
     case OPEN:
-        return fuzsbanel_zone_open(TEXT(ORIGIN), TEXT(other_zone), zone);
+        return fuzsbanel_zone_open(TEXT(ORIGIN), TEXT(other_zone), INCLUDED, zone);
     case UPDATE:
-    case UPDATE_SHARED:
-        return fuzsbanel_zone_update(zone, updates[i], (size_t)lengths[i]);
+    case UPDATE_SHARED: {
+        bool is_changed;
+        return fuzsbanel_zone_update(zone, updates[i], (size_t)lengths[i], &is_changed);
+    }
     case ANSWER: {
         uint8_t out[512];
         size_t needed;
@@ -94,7 +101,7 @@ static long refused_in_turn(const char *what, enum call call, int i)
     for (long count = 0;; count++) {
         struct fuzsbanel_zone_handle zone = {0}, other = {0};
         growths = -1;
-        if (fuzsbanel_zone_open(TEXT(ORIGIN), TEXT(first_zone), &zone) != 0 || text_of(&zone) < 0)
+        if (fuzsbanel_zone_open(TEXT(ORIGIN), TEXT(first_zone), INCLUDED, &zone) != 0 || text_of(&zone) < 0)
             exit(1);
         strcpy(before, shown);
         bool is_shared = call == UPDATE_SHARED || call == RAISE_SHARED;

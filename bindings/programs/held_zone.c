@@ -1,9 +1,8 @@
 #include "held_zone.h"
+#include "zone_files.h"
 
 #include <errno.h>
 #include <inttypes.h>
-#include <stdio.h>
-#include <stdlib.h>
 #include <string.h>
 
 /* how many bytes the five numbers of an SOA have */
@@ -34,39 +33,24 @@ bool first_answer(const uint8_t *message, size_t len, struct fuzsbanel_record *r
     return place >= 0 && fuzsbanel_record(message, len, (size_t)place, record) >= 0;
 }
 
-/* The text of a file and a line's end, since a last line without one would be passed over, if it is no record. */
-static uint8_t *text_of(const char *path, size_t *len)
+/* Stops the server for a zone that was refused, with the place of the fault if it has one. */
+static _Noreturn void stop_for(const char *path, const char *origin, struct zone_files *files, int64_t answer)
 {
-    FILE *file = fopen(path, "rb");
-    uint8_t *text = NULL;
-    size_t got = 1, room = 0;
-    for (*len = 0; file && got > 0; *len += got) {
-        if (room - *len < 2) {
-            room = room < SIZE_MAX / 4 ? 2 * room + 65536 : 0;
-            uint8_t *larger = room ? realloc(text, room) : NULL;
-            if (!larger)
-                stop("%s: no memory", path);
-            text = larger;
-        }
-        got = fread(text + *len, 1, room - *len - 1, file);
-    }
-    if (!file || ferror(file) || fclose(file) != 0)
-        stop("%s: %s", path, strerror(errno));
-    text[(*len)++] = '\n';
-    return text;
+    if (zone_files_check(files, origin) >= 0 || files->fault.line == 0)
+        stop("%s: refused with %" PRId64, path, -answer);
+    stop("%s: line %zu, column %zu: %s", *files->name ? files->name : path, files->fault.line, files->fault.column,
+         files->words);
 }
 
-/* Stops the server for a zone that was refused, with the place of the fault if it has one. */
-static _Noreturn void stop_for(const char *path, const char *origin, const uint8_t *text, size_t len, int64_t answer)
+/* Opens the zone of the files, and reads those that they include. */
+static int64_t open_zone(struct held_zone *held, struct zone_files *files)
 {
-    static uint8_t name[1], words[512];
-    static const struct fuzsbanel_included none[1];
-    struct fuzsbanel_fault fault;
-    if (fuzsbanel_zone_check(TEXT(origin), text, len, none, 0, name, 0, name, 0, words, sizeof words, &fault) >= 0 ||
-        fault.line == 0)
-        stop("%s: refused with %" PRId64, path, -answer);
-    int shown = (int)(fault.words_len < sizeof words ? fault.words_len : sizeof words);
-    stop("%s: line %zu, column %zu: %.*s", path, fault.line, fault.column, shown, (const char *)words);
+    int64_t answer;
+    do
+        answer = fuzsbanel_zone_open(TEXT(held->origin), files->text, files->len, files->included, files->count,
+                                     files->bytes, files->bytes_len, &held->zone);
+    while (answer == -FUZSBANEL_NO_INCLUDE && zone_files_check(files, held->origin) == answer && zone_files_add(files));
+    return answer;
 }
 
 static bool find_serial(struct held_zone *held)
@@ -79,12 +63,7 @@ static bool find_serial(struct held_zone *held)
     return len >= 0 && first_answer(answer, (size_t)len, &soa) && serial_of(answer, (size_t)len, &soa, &held->serial);
 }
 
-static bool has_changes(const uint8_t *update)
-{
-    return two_at(update + 8) != 0; /* and not prerequisites alone (RFC 2136, 2.2) */
-}
-
-/* Keeps the entry of an update that was carried out, and raises the serial. */
+/* Keeps the entry of an update that changed the zone, and raises the serial. */
 static void keep(struct held_zone *held)
 {
     journal_keep(&held->journal);
@@ -102,15 +81,16 @@ static void replay(struct held_zone *held)
     size_t len;
     bool is_last;
     while (journal_next(&held->journal, update, &len, &is_last)) {
-        int64_t code = fuzsbanel_zone_update(&held->zone, update, len);
+        bool is_changed;
+        int64_t code = fuzsbanel_zone_update(&held->zone, update, len, &is_changed);
         if (code < 0)
             stop("an update of the journal is refused with %" PRId64, -code);
-        if (code == NO_ERROR && has_changes(update))
+        if (is_changed)
             keep(held);
         else if (is_last)
             journal_cut(&held->journal);
         else
-            stop("an update of the journal has the code %" PRId64 ": it isn't of this zone", code);
+            stop("an update of the journal changes nothing, with the code %" PRId64 ": it isn't of this zone", code);
     }
 }
 
@@ -118,26 +98,29 @@ void held_open(struct held_zone *held, const char *path, const char *origin, con
 {
     struct sha256 hash;
     uint8_t digest[SHA256_BYTES];
-    size_t len, needed;
+    struct zone_files files;
+    size_t needed;
     *held = (struct held_zone){.origin = origin};
-    uint8_t *text = text_of(path, &len);
+    if (!zone_files_read(&files, path))
+        stop("%s: %s", path, strerror(errno));
     int64_t answer = fuzsbanel_build_query(0, TEXT(origin), TYPE_SOA, CLASS_IN, false, 0, held->asking, ASKING, &needed);
     if (answer >= 0) {
         held->asking_len = (size_t)answer;
         /* after its header a query has the name, the type and the class */
         held->name_len = held->asking_len - HEADER - 4;
         lower(held->name, held->asking + HEADER, held->name_len);
-        answer = fuzsbanel_zone_open(TEXT(origin), text, len, &held->zone);
+        answer = open_zone(held, &files);
     }
     if (answer < 0)
-        stop_for(path, origin, text, len, answer);
+        stop_for(path, origin, &files, answer);
     if (!find_serial(held))
         stop("%s: the zone has no SOA", path);
     sha256_begin(&hash);
     sha256_add(&hash, held->name, held->name_len);
-    sha256_add(&hash, text, len - 1);
+    sha256_add(&hash, files.text, files.len - 1);
+    sha256_add(&hash, files.bytes, files.bytes_len);
     sha256_end(&hash, digest);
-    free(text);
+    zone_files_free(&files);
     journal_open(&held->journal, journal, digest);
     replay(held);
 }
@@ -146,8 +129,9 @@ int held_update(struct held_zone *held, const uint8_t *update, size_t len)
 {
     bool is_written = journal_append(&held->journal, update, len);
     int why = errno;
-    int64_t code = is_written ? fuzsbanel_zone_update(&held->zone, update, len) : -1;
-    if (code == NO_ERROR && has_changes(update))
+    bool is_changed = false;
+    int64_t code = is_written ? fuzsbanel_zone_update(&held->zone, update, len, &is_changed) : -1;
+    if (is_changed)
         keep(held);
     else
         journal_cut(&held->journal);

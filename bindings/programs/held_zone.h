@@ -8,7 +8,7 @@
 #include <string.h>
 
 /* codes of RFC 1035, 4.1.1, and of RFC 2136, 2.2 */
-enum { NO_ERROR = 0, FORM_ERR = 1, SERV_FAIL = 2, NOT_IMP = 4, REFUSED = 5, NOT_AUTH = 9 };
+enum { FORM_ERR = 1, SERV_FAIL = 2, NOT_IMP = 4, REFUSED = 5, NOT_AUTH = 9 };
 /* how many bytes a header has, and a name at most, and a query for the zone's SOA */
 enum { HEADER = 12, LONGEST_NAME = 255, ASKING = HEADER + LONGEST_NAME + 4 };
 enum { TYPE_SOA = 6, CLASS_IN = 1 };
@@ -26,10 +26,11 @@ struct held_zone {
     size_t name_len;
 };
 
-/* Opens the zone of a file, and carries out the updates of the journal again; or stops the server. */
+/* Opens the zone of a file and of those that it includes, and carries out the updates of the journal again; or stops the
+ * server. */
 void held_open(struct held_zone *held, const char *path, const char *origin, const char *journal);
 
-/* The code of an update. With NoError it is carried out, and stands in the journal if it has any change; with another, or
+/* The code of an update. With NoError it is carried out, and stands in the journal if it changed anything; with another, or
  * where it finds no room or no memory, neither. So a replay comes to the same zone. */
 int held_update(struct held_zone *held, const uint8_t *update, size_t len);
 

@@ -8,11 +8,11 @@ silence, and there are few connections for each address and in all.
 Updates and transfers are taken by TCP alone, since anybody may forge where a datagram comes from, and from the addresses
 that are named. No signature is checked: a message with TSIG or SIG(0) is answered NotAuth. An update is synced to the
 journal before it is carried out, and answered after that; at the start those of the journal are carried out again. The
-journal belongs to the zone file that it began with, and only grows: to begin anew, take it away when you put another file
-there, as the zone that a transfer brought.
+journal belongs to the zone file that it began with and those that this includes, which are read by their names as they
+stand, and only grows: to begin anew, take it away when you put another file there, as the zone that a transfer brought.
 
-The SOA's serial is raised by each update that is answered NoError and names any change, whether the zone has it already or
-not. Then, and at the start, the secondaries that are named are told by NOTIFY (RFC 1996). IXFR gets the whole zone, or its
+The SOA's serial is raised by each update that changes anything (RFC 2136, 3.6), and not by one that adds what the zone has
+already. Then, and at the start, the secondaries that are named are told by NOTIFY (RFC 1996). IXFR gets the whole zone, or its
 SOA where there is nothing newer (RFC 1995, 2 and 4). All messages of a transfer are made at once: of one zone, while others
 wait.
 
@@ -40,7 +40,9 @@ from journal import Journal, Stop, warn  # noqa: E402
 SOA, SIG, TSIG, IXFR, AXFR, ANY = 6, 24, 250, 251, 252, 255
 QUERY, STATUS, NOTIFY, UPDATE = 0, 2, 4, 5
 ANSWER, AUTHORITY = 1, 2
-NO_ERROR, FORM_ERR, SERV_FAIL, NOT_IMP, REFUSED, NOT_AUTH = 0, 1, 2, 4, 5, 9
+FORM_ERR, SERV_FAIL, NOT_IMP, REFUSED, NOT_AUTH = 1, 2, 4, 5, 9
+# the refusal of zone text that includes a text which isn't handed in
+NO_INCLUDE = 20
 # how many bytes of a datagram pass any network (RFC 9715, 3), the most of a message, and its header
 PAYLOAD, MOST, HEADER = 1232, 65535, 12
 # how many questions and records a message may have that is no update of one who may: the question, the SOA of IXFR, OPT and a signature
@@ -83,11 +85,6 @@ def with_type(message: bytes, query_type: int) -> bytes:
     return message[:end - 4] + struct.pack("!H", query_type) + message[end - 2:]
 
 
-def has_changes(update: bytes) -> bool:
-    """Whether the header of an update counts any change, and not prerequisites alone (RFC 2136, 2.2)."""
-    return update[8:10] != b"\0\0"
-
-
 def serial_of(soa: fuzsbanel.Record) -> int:
     """The serial of an SOA, whose data ends in five numbers (RFC 1035, 3.3.13)."""
     return struct.unpack("!I", soa.data[-20:-16])[0]
@@ -98,32 +95,46 @@ def is_current(known: int, serial: int) -> bool:
     return (known - serial) % (1 << 32) < 1 << 31
 
 
+def text_of(path: str) -> str:
+    """The text of a file, and a line's end, since a last line without one would be passed over, if it is no record."""
+    with open(path, "rb") as file:
+        return file.read().decode() + "\n"
+
+
+def opened(path: str, origin: str) -> Tuple[fuzsbanel.Zone, List[str]]:
+    """The zone of a file and of those that it includes, each read by its name as it stands; and the file's text, and the name
+    and the text of each other, in the order in which they were asked for."""
+    text, included = text_of(path), {}
+    while True:
+        try:
+            return fuzsbanel.Zone(origin, text, included), [text[:-1], *(piece for it in included.items() for piece in it)]
+        except fuzsbanel.Refusal as why:
+            fault = fuzsbanel.zone_check(origin, text, included)
+            told = f"{fault.name or path}: line {fault.line}, column {fault.column}: {fault.words}" if fault else f"{path}: {why}"
+            if not fault or fault.number != NO_INCLUDE:
+                raise Stop(told) from why
+            name = fault.words[len("no text named "):-len(" to include")]
+            try:
+                included[name] = text_of(name)
+            except (OSError, ValueError):
+                raise Stop(told) from why
+
+
 class HeldZone:
     """The zone and its journal."""
 
     def __init__(self, path: str, origin: str, journal: str) -> None:
-        with open(path, "rb") as file:
-            text = file.read()
         try:
             # what a query has after its header is the name in wire form, the type and the class
             self._asking = fuzsbanel.build_query(0, origin, SOA, recursion=False)
             self.name = self._asking[HEADER:-4].lower()
-            # a last line without an end would be passed over, if it is no record
-            self.zone = fuzsbanel.Zone(origin, text.decode() + "\n")
+            self.zone, pieces = opened(path, origin)
             self.serial = self._serial()
         except (ValueError, fuzsbanel.Refusal) as why:
-            raise Stop(f"{path}: {self._fault(origin, text) or why}") from why
-        self._journal = Journal(journal, hashlib.sha256(self.name + text).digest())
+            raise Stop(f"{path}: {why}") from why
+        self._journal = Journal(journal, hashlib.sha256(self.name + "".join(pieces).encode()).digest())
         for update, is_last in self._journal.entries():
             self._replay(update, is_last)
-
-    @staticmethod
-    def _fault(origin: str, text: bytes) -> Optional[str]:
-        try:
-            fault = fuzsbanel.zone_check(origin, text.decode() + "\n")
-        except (ValueError, fuzsbanel.Refusal):
-            return None
-        return fault and f"line {fault.line}, column {fault.column}: {fault.words}"
 
     def _serial(self) -> int:
         for record in fuzsbanel.records(self.zone.answer(self._asking)):
@@ -135,34 +146,34 @@ class HeldZone:
         """Carries out an update of the journal. One that isn't kept may be the last alone: the server ended before it cut that
         off."""
         try:
-            code = self.zone.update(update)
+            code, is_changed = self.zone.update(update)
         except fuzsbanel.Refusal as why:
             raise Stop(f"an update of the journal is refused: {why}") from why
-        if code == NO_ERROR and has_changes(update):
+        if is_changed:
             self._keep()
         elif is_last:
             self._journal.cut()
         else:
-            raise Stop(f"an update of the journal has the code {code}: it isn't of this zone")
+            raise Stop(f"an update of the journal changes nothing, with the code {code}: it isn't of this zone")
 
     def update(self, update: bytes) -> int:
-        """The code of an update. With NoError it is carried out, and stands in the journal if it has any change; with another,
+        """The code of an update. With NoError it is carried out, and stands in the journal if it changed anything; with another,
         or where it finds no room or no memory, neither. So a replay comes to the same zone."""
         try:
             self._journal.append(update)
-            code = self.zone.update(update)
+            code, is_changed = self.zone.update(update)
         except (OSError, fuzsbanel.Refusal) as why:
             self._journal.cut()
             warn(f"an update is not carried out: {why}")
             return SERV_FAIL
-        if code == NO_ERROR and has_changes(update):
+        if is_changed:
             self._keep()
         else:
             self._journal.cut()
         return code
 
     def _keep(self) -> None:
-        """Keeps the entry of an update that was carried out, and raises the serial."""
+        """Keeps the entry of an update that changed the zone, and raises the serial."""
         self._journal.keep()
         try:
             self.serial = self.zone.raise_serial()

@@ -79,19 +79,21 @@ def try_transfers():
 
 
 def try_serials():
-    """The serial rises with each update that may have changed something, and is the same after a start."""
+    """The serial rises with each update that changes something, and is the same after a start."""
     nothing = fuzsbanel.append(9, ORIGIN, "x 300 A 192.0.2.1", must_exist=True)
     with tempfile.TemporaryDirectory() as folder:
         with Served(folder, *ALLOWED, text=ZONE.replace(" 1 7200", f" {2 ** 32 - 2} 7200")) as server:
-            seen = []
+            seen, sizes = [], []
             for update, code in ((added("a"), 0), (nothing, 8), (added("a"), 0), (added("b"), 0)):
                 want(server.code(update) == code, "an update")
                 seen.append(server.serial())
+                sizes.append(os.path.getsize(server.journal))
+            want(sizes[0] == sizes[2] < sizes[3], "an update that changes nothing stands in the journal")
             size = os.path.getsize(server.journal)
             status, said = server.nsupdate("prereq yxdomain a.example.")
             want(status == 0 and server.serial() == seen[-1], f"prerequisites alone: {said}")
             want(os.path.getsize(server.journal) == size, "prerequisites alone stand in the journal")
-            want(seen == [2 ** 32 - 1, 2 ** 32 - 1, 0, 1], f"serials {seen}")
+            want(seen == [2 ** 32 - 1] * 3 + [0], f"serials {seen}")
         with Served(folder, *ALLOWED, text=ZONE.replace(" 1 7200", f" {2 ** 32 - 2} 7200")) as server:
             want(server.serial() == seen[-1], "a serial after a start")
     print("nameserver: serials that rise with updates")
@@ -113,8 +115,9 @@ def try_notify():
                 secondary.sendto(wrong, source)
             want(secondary.recv(4096) == first and time.monotonic() - began > 3, "the second wait is twice the first")
             secondary.sendto(heard_it, source)
+            want(server.code(added("www", 3)) == 0, "an update that changes nothing")
             secondary.settimeout(9)
-            want(heard(secondary) is None, "who heard is told again")
+            want(heard(secondary) is None, "who heard is told again, or of no change")
             for at in range(3):
                 want(server.code(added(f"n{at}")) == 0, "an update")
             told = [heard(secondary), heard(secondary)]

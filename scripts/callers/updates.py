@@ -117,6 +117,30 @@ def try_journal():
     print(f"nameserver: a journal cut at {ends[3] - ends[2]} places, and with each of {ends[3]} bytes another")
 
 
+def try_included():
+    """A zone file may include others, and the journal is that of all of them."""
+    with tempfile.TemporaryDirectory() as folder:
+        files = {"hosts": f"inner A 192.0.2.5\n$INCLUDE {folder}/more\n", "more": "last A 192.0.2.6"}
+        text = f"{ZONE}$INCLUDE {folder}/hosts\n"
+        write(folder, files)
+        for there in (0, 1):
+            with Served(folder, *ALLOWED, text=text) as server:
+                want([server.has(f"{it}.example") for it in ("inner", "last", "a")] == [1, 1, there], "what is included")
+                want(server.code(added("a")) == 0, "an update")
+        for name, wrong, words in (("more", "last A 192.0.2.7", "another zone file"),
+                                   ("more", "last A 192.0.2", f"{folder}/more: line 1, column 6: invalid data for type A")):
+            write(folder, {**files, name: wrong})
+            with Served(folder, *ALLOWED, text=text) as server:
+                want(server.port is None and server.ended() == 1 and words in server.words(), f"a zone: {server.words()}")
+    print("nameserver: a zone file that includes others")
+
+
+def write(folder, files):
+    for name, text in files.items():
+        with open(f"{folder}/{name}", "w", encoding="utf-8") as file:
+            file.write(text)
+
+
 def try_killed():
     """What was answered is there after the server was killed, and nothing that wasn't sent."""
     with tempfile.TemporaryDirectory() as folder:

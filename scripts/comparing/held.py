@@ -12,7 +12,8 @@ except ImportError as fault:
 
 
 class Held:
-    """The zone of a text, and what comes of an update: the number of the code, or minus that of a refusal."""
+    """The zone of a text, and what comes of an update: the number of the code, or minus that of a refusal, and whether it
+    is told that anything changed."""
 
     def __init__(self, origin, text):
         self.zone = fuzsbanel.Zone(origin, text)
@@ -21,7 +22,7 @@ class Held:
         try:
             return self.zone.update(update)
         except fuzsbanel.Refusal as refusal:
-            return -refusal.number
+            return -refusal.number, False
 
     def answer(self, received, most):
         """The bytes that are sent, or minus the number of a refusal."""

@@ -51,7 +51,7 @@ def differs(program, update, before, after, code):
 
 def held_differs(zone, update, after, code):
     """What comes of it in a zone that is held since the first update, if that is otherwise."""
-    got = zone.update(update.to_wire())
+    got, _ = zone.update(update.to_wire())
     same = got == dns.rcode.from_text(code) and updates.printed(zone.lines()) == updates.meaning(after)
     return None if same else f"held: {got} and not {code}\n{update}\n{zone.lines()}\n{updates.text(after)}"
 

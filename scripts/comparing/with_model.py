@@ -72,14 +72,16 @@ def held_updates(tally):
         return None
     origin, sets, _ = parsed(text, {}, parse_name("example.", None))
     for _ in range(TAKEN):
-        sent = written(random_updates.update(sets), 65535)
+        sent, before = written(random_updates.update(sets), 65535), zone_text(origin, sets)
         try:
             code, sets = applied(origin, 1, sets, read_message(sent))
             wanted = numbers[code]
         except Refused as refused:
             code = wanted = -refused.number
-        got, lines = zone.update(sent), zone.lines()
+        (got, is_changed), lines = zone.update(sent), zone.lines()
         tally[str(code)] += 1
+        if is_changed != (zone_text(origin, sets) != before):
+            return f"{sent.hex()} of {before}\n  is told as {is_changed} and leaves\n{zone_text(origin, sets)}"
         # of two ANAME records a text says the last alone
         if got != wanted or lines not in (["33"], zone_text(origin, sets).splitlines()[1:]):
             return f"{sent.hex()} of {text!r}\n  is {got} {lines}\n  not {code} {zone_text(origin, sets)}"

@@ -38,14 +38,16 @@ static int64_t handed(bool is_update, struct fuzsbanel_zone_handle *zone, size_t
 {
     static uint8_t out[LONGEST];
     size_t needed;
+    bool is_changed;
     if (is_update)
-        return fuzsbanel_zone_update(zone, messages[i], lengths[i]);
+        return fuzsbanel_zone_update(zone, messages[i], lengths[i], &is_changed);
     return fuzsbanel_zone_answer(zone, messages[i], lengths[i], DATAGRAM, false, out, sizeof out, &needed);
 }
 
 int main(int argc, char **argv)
 {
     struct fuzsbanel_zone_handle zone = {0};
+    static const struct fuzsbanel_included none[1];
     FILE *file = argc == 4 ? fopen(argv[3], "rb") : NULL;
     if (!file || fseek(file, 0, SEEK_END) != 0)
         return 2;
@@ -55,7 +57,7 @@ int main(int argc, char **argv)
     if (!text || fread(text, 1, len, file) != len)
         return 2;
     fclose(file);
-    int64_t sum = fuzsbanel_zone_open((const uint8_t *)ORIGIN, strlen(ORIGIN), text, len, &zone);
+    int64_t sum = fuzsbanel_zone_open((const uint8_t *)ORIGIN, strlen(ORIGIN), text, len, none, 0, text, 0, &zone);
     size_t count = read_messages();
     bool is_update = strcmp(argv[1], "update") == 0;
     for (long times = atol(argv[2]); times > 0; times--)

@@ -48,11 +48,11 @@ from .messages import (EdnsOption, Header, Query, Record, Response, build_notify
 from .mnemonics import class_number, class_text, code_number, code_text, type_number, type_text, version
 from .refusal import Refusal
 from .updates import (append, compare_and_swap, create, delete_all, delete_by_rdata, delete_rrset, zone_transfer)
-from .zones import Fault, Zone, apply, zone, zone_check
+from .zones import Applied, Fault, Zone, apply, zone, zone_check
 
 __all__ = [
-    "A", "AAAA", "ANAME", "CNAME", "Data", "Edns", "EdnsOption", "Fault", "Header", "MX", "Message", "NS", "Opaque",
-    "PTR", "Query", "Record", "Refusal", "Response", "SOA", "SRV", "TXT", "Zone", "append", "apply", "build_notify",
+    "A", "AAAA", "ANAME", "Applied", "CNAME", "Data", "Edns", "EdnsOption", "Fault", "Header", "MX", "Message", "NS",
+    "Opaque", "PTR", "Query", "Record", "Refusal", "Response", "SOA", "SRV", "TXT", "Zone", "append", "apply", "build_notify",
     "build_query", "build_response", "check", "class_number", "class_text", "code_number", "code_text",
     "compare_and_swap", "create", "cut", "data_text", "data_wire", "delete_all", "delete_by_rdata", "delete_rrset",
     "header", "name", "name_wire", "options", "queries", "query", "record", "records", "response", "text", "type_number",

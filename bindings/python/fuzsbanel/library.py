@@ -133,6 +133,7 @@ BYTES = [ctypes.c_char_p, ctypes.c_size_t]
 OUT = [ctypes.c_char_p, ctypes.c_size_t, ctypes.POINTER(ctypes.c_size_t)]
 U16, EDNS, PLACE = [ctypes.c_uint16], [ctypes.c_bool], [ctypes.c_size_t]
 HANDLE = [ctypes.POINTER(ZoneHandle)]
+INCLUDED = [ctypes.POINTER(IncludedFields)] + PLACE + BYTES
 CALLS = {
     "check": BYTES,
     "cut": BYTES + U16 + OUT,
@@ -158,10 +159,10 @@ CALLS = {
     "wire_text": U16 + BYTES + OUT,
     "walk": BYTES + [ctypes.POINTER(ItemFields)] + PLACE + BYTES + [ctypes.POINTER(Room)],
     "zone": BYTES + BYTES + OUT,
-    "zone_check": BYTES + BYTES + [ctypes.POINTER(IncludedFields)] + PLACE + BYTES * 3 + [ctypes.POINTER(FaultFields)],
+    "zone_check": BYTES + BYTES + INCLUDED + BYTES * 2 + [ctypes.POINTER(FaultFields)],
     "apply": BYTES + BYTES + BYTES + OUT,
-    "zone_open": BYTES + BYTES + HANDLE,
-    "zone_update": HANDLE + BYTES,
+    "zone_open": BYTES + BYTES + INCLUDED + HANDLE,
+    "zone_update": HANDLE + BYTES + [ctypes.POINTER(ctypes.c_bool)],
     "zone_text": HANDLE + OUT,
     "zone_answer": HANDLE + BYTES + U16 + [ctypes.c_bool] + OUT,
     "zone_raise_serial": HANDLE,

@@ -8,6 +8,13 @@ from .library import LIBRARY, FaultFields, IncludedFields, TransferPlace, ZoneHa
 from .refusal import Refusal
 
 
+class Applied(NamedTuple):
+    """What came of an update: the server's code (RFC 2136, 2.2), and whether some set is another than before."""
+
+    code: int
+    is_changed: bool
+
+
 class Fault(NamedTuple):
     """A fault of zone text: the number of its refusal, the name of the included text that it stands in, empty of the text
     itself, the line and the column there, from 1 and in bytes, and what it is, in words."""
@@ -25,6 +32,13 @@ def zone(origin: str, zone_text: str) -> str:
     return filled(2 * len(zone_text), "zone", origin, zone_text).decode()
 
 
+def crossing(included: Mapping[str, str]) -> list:
+    """Texts that may be included, by their names, as they are handed over."""
+    pieces = [(name_.encode(), text_.encode()) for name_, text_ in included.items()]
+    lengths = (IncludedFields * len(pieces))(*((len(name_), len(text_)) for name_, text_ in pieces))
+    return [lengths, len(pieces), b"".join(name_ + text_ for name_, text_ in pieces)]
+
+
 def zone_check(origin: str, zone_text: str, included: Mapping[str, str] = MappingProxyType({})) -> Optional[Fault]:
     """The first fault of a zone's text, if it has one; `included` are the texts that it may include, by their names.
 
@@ -37,13 +51,11 @@ def zone_check(origin: str, zone_text: str, included: Mapping[str, str] = Mappin
     ...
     fuzsbanel.Refusal: 23: items that are no data, name or TTL
     """
-    pieces = [(name_.encode(), text_.encode()) for name_, text_ in included.items()]
-    lengths = (IncludedFields * len(pieces))(*((len(name_), len(text_)) for name_, text_ in pieces))
-    found, room, held = FaultFields(), 256, b"".join(name_ + text_ for name_, text_ in pieces)
+    found, room, held = FaultFields(), 256, crossing(included)
     while True:
         name_, words = ctypes.create_string_buffer(room + 1), ctypes.create_string_buffer(room + 1)
         try:
-            asked("zone_check", origin, zone_text, lengths, len(pieces), held, name_, room, words, room, ctypes.byref(found))
+            asked("zone_check", origin, zone_text, *held, name_, room, words, room, ctypes.byref(found))
             return None
         except Refusal as refusal:
             if not found.line:
@@ -61,14 +73,14 @@ def apply(update: bytes, origin: str, zone_text: str) -> str:
 
 
 class Zone:
-    """A zone that is held: opened at a text, updated where it is, written as text, and closed. Threads may share one; its
-    calls come one after the other.
+    """A zone that is held: opened at a text and those that it includes, by their names, updated where it is, written as text,
+    and closed. Threads may share one; its calls come one after the other.
 
     >>> www = "www 300 A 192.0.2.2"
     >>> with Zone("example.", "@ 300 SOA ns hostmaster 1 2 3 4 5") as held:
     ...     held.update(create(1, "example.", www)), held.update(create(1, "example.", www))
     ...     print(held.text(), end="")
-    (0, 7)
+    (Applied(code=0, is_changed=True), Applied(code=7, is_changed=False))
     $ORIGIN example.
     example. 300 IN SOA ns.example. hostmaster.example. 1 2 3 4 5
     www.example. 300 IN A 192.0.2.2
@@ -84,7 +96,11 @@ class Zone:
     [['ns.example. hostmaster.example. 1 2 3 4 5', '192.0.2.2', 'ns.example. hostmaster.example. 1 2 3 4 5']]
     >>> with Zone("example.", "@ 300 SOA ns hostmaster 1 2 3 4 5") as held, held.share() as reader:
     ...     held.update(create(1, "example.", www)), "www" in held.text(), "www" in reader.text()
-    (0, True, False)
+    (Applied(code=0, is_changed=True), True, False)
+    >>> adding = append(2, "example.", www)
+    >>> with Zone("example.", "$INCLUDE hosts\\n", {"hosts": www}) as held:
+    ...     held.update(adding)
+    Applied(code=0, is_changed=False)
     >>> held.close()
     >>> held.text()
     Traceback (most recent call last):
@@ -96,15 +112,17 @@ class Zone:
     fuzsbanel.Refusal: 26: an origin of no bytes, where a zone has to be named
     """
 
-    def __init__(self, origin: str, zone_text: str) -> None:
+    def __init__(self, origin: str, zone_text: str, included: Mapping[str, str] = MappingProxyType({})) -> None:
         self._handle, self._lock = ZoneHandle(), threading.Lock()
-        asked("zone_open", origin, zone_text, ctypes.byref(self._handle))
+        asked("zone_open", origin, zone_text, *crossing(included), ctypes.byref(self._handle))
 
-    def update(self, update: bytes) -> int:
-        """Carries out an update message, and answers the server's code: with 0, NoError, the zone is changed (RFC 2136, 3),
-        with any other, and where it refuses, it is as it was. The SOA's serial stays."""
+    def update(self, update: bytes) -> Applied:
+        """Carries out an update message, and answers the server's code and whether anything changed: with 0, NoError, the update
+        is carried out (RFC 2136, 3), with any other, and where it refuses, the zone is as it was. The SOA's serial stays."""
+        is_changed = ctypes.c_bool()
         with self._lock:
-            return asked("zone_update", ctypes.byref(self._handle), update)
+            code = asked("zone_update", ctypes.byref(self._handle), update, ctypes.byref(is_changed))
+        return Applied(code, is_changed.value)
 
     def answer(self, received: bytes, most: Optional[int] = None) -> bytes:
         """The bytes that an authoritative server of the zone sends for those that it received; none where it sends nothing.

@@ -34,6 +34,16 @@ pub struct Included {
     pub text_len: usize,
 }
 
+/// The lengths of texts that may be included, each after its name, and their bytes.
+pub fn crossing(included: &[(&str, &str)]) -> (Vec<Included>, String) {
+    let lengths = included.iter().map(|(name, text)| Included {
+        name_len: name.len(),
+        text_len: text.len(),
+    });
+    let bytes = included.iter().flat_map(|&(name, text)| [name, text]);
+    (lengths.collect(), bytes.collect())
+}
+
 /// Where a fault stands, and how long the name of its text and its words are.
 #[repr(C)]
 #[derive(Default)]
@@ -215,12 +225,17 @@ extern "C" {
         origin_len: usize,
         text: *const u8,
         text_len: usize,
+        included: *const Included,
+        included_len: usize,
+        bytes: *const u8,
+        bytes_len: usize,
         handle: *mut ZoneHandle,
     ) -> i64;
     pub fn fuzsbanel_zone_update(
         handle: *mut ZoneHandle,
         update: *const u8,
         update_len: usize,
+        is_changed: *mut bool,
     ) -> i64;
     pub fn fuzsbanel_zone_text(
         handle: *mut ZoneHandle,

@@ -11,10 +11,11 @@ const MAX_MESSAGE: usize = 65_535;
 /// A zone: opened at a text, updated where it is, and written as text again.
 ///
 /// ```
-/// let mut zone = fuzsbanel::Zone::open("example.", "@ 300 SOA ns hostmaster 1 2 3 4 5")?;
+/// let mut zone = fuzsbanel::Zone::open("example.", "@ 300 SOA ns hostmaster 1 2 3 4 5", &[])?;
 /// let update = fuzsbanel::create(1, "example.", "www 300 A 192.0.2.1", false)?;
-/// assert_eq!(zone.update(&update), Ok(0)); // NoError
-/// assert_eq!(zone.update(&update), Ok(7)); // YXRRSet: the zone has such a set
+/// let applied = zone.update(&update)?;
+/// assert!(applied.code == 0 && applied.is_changed); // NoError
+/// assert_eq!(zone.update(&update)?.code, 7); // YXRRSet: the zone has such a set
 /// assert!(zone.text()?.ends_with("www.example. 300 IN A 192.0.2.1\n"));
 /// let query = b"\0\x09\x01\0\0\x01\0\0\0\0\0\0\x03www\x07example\0\0\x01\0\x01";
 /// let answer = zone.answer(query, Some(512))?.unwrap_or_default();
@@ -27,6 +28,15 @@ const MAX_MESSAGE: usize = 65_535;
 /// ```
 pub struct Zone {
     handle: ZoneHandle,
+}
+
+/// What came of an update.
+#[derive(Clone, Copy, Debug, PartialEq, Eq)]
+pub struct Applied {
+    /// The server's code (RFC 2136, 2.2).
+    pub code: u16,
+    /// Whether some set is another than before, in any field: a server raises the serial then (RFC 2136, 3.6).
+    pub is_changed: bool,
 }
 
 // SAFETY: what an open handle holds is memory of `malloc`'s that nothing else points to but handles that share the zone; these
@@ -42,14 +52,23 @@ fn closed() -> ZoneHandle {
 }
 
 impl Zone {
-    /// The zone of an origin, whose records are those of a text.
+    /// The zone of an origin, whose records are those of a text; `included` are the texts that it may include, each after
+    /// its name.
+    ///
+    /// ```
+    /// let hosts = ("hosts", "www 300 A 192.0.2.1\n");
+    /// let mut zone = fuzsbanel::Zone::open("example.", "$INCLUDE hosts\n", &[hosts])?;
+    /// assert!(zone.text()?.ends_with("www.example. 300 IN A 192.0.2.1\n"));
+    /// # Ok::<(), fuzsbanel::Error>(())
+    /// ```
     ///
     /// # Errors
     ///
     /// The text's first fault; [`Error::NoOrigin`] for an empty origin, [`Error::NotOnWire`] for a relative name in data,
     /// and [`Error::Class`] for a zone of another class than IN.
-    pub fn open(origin: &str, text: &str) -> Result<Zone, Error> {
+    pub fn open(origin: &str, text: &str, included: &[(&str, &str)]) -> Result<Zone, Error> {
         let mut handle = closed();
+        let (lengths, bytes) = calls::crossing(included);
         // SAFETY: the handle begins closed, and the texts are borrowed for the call.
         let answer = unsafe {
             calls::fuzsbanel_zone_open(
@@ -57,6 +76,10 @@ impl Zone {
                 origin.len(),
                 text.as_ptr(),
                 text.len(),
+                lengths.as_ptr(),
+                lengths.len(),
+                bytes.as_ptr(),
+                bytes.len(),
                 &mut handle,
             )
         };
@@ -64,20 +87,27 @@ impl Zone {
         Ok(Zone { handle })
     }
 
-    /// Carries out an update message, and answers the server's code (RFC 2136, 2.2): with 0, NoError, the zone is changed
-    /// (RFC 2136, 3), and with any other it is as it was. What it costs depends on what the update names alone. Who may
-    /// send an update is the caller's to ask, and so is the SOA's serial, which stays.
+    /// Carries out an update message, and answers the server's code and whether anything changed: with 0, NoError, the
+    /// update is carried out (RFC 2136, 3), and with any other the zone is as it was. What it costs depends on what the
+    /// update names alone. Who may send an update is the caller's to ask, and so is the SOA's serial, which stays.
     ///
     /// # Errors
     ///
     /// The message's first fault. The zone is then as it was.
-    pub fn update(&mut self, update: &[u8]) -> Result<u16, Error> {
-        // SAFETY: the handle is open, of this value alone, and not copied; the bytes are borrowed for the call.
+    pub fn update(&mut self, update: &[u8]) -> Result<Applied, Error> {
+        let mut is_changed = false;
+        // SAFETY: the handle is open, of this value alone, and not copied; the rest is borrowed for the call.
         let answer = unsafe {
-            calls::fuzsbanel_zone_update(&mut self.handle, update.as_ptr(), update.len())
+            calls::fuzsbanel_zone_update(
+                &mut self.handle,
+                update.as_ptr(),
+                update.len(),
+                &mut is_changed,
+            )
         };
         // A code has sixteen bits.
-        calls::length(answer).map(|code| code as u16)
+        let code = calls::length(answer)? as u16;
+        Ok(Applied { code, is_changed })
     }
 
     /// The bytes that an authoritative server of the zone sends for those that it received, if it sends any (RFC 1034,
@@ -125,7 +155,7 @@ impl Zone {
     /// stays as it was then.
     ///
     /// ```
-    /// let mut zone = fuzsbanel::Zone::open("example.", "@ 300 SOA ns hostmaster 1 2 3 4 5")?;
+    /// let mut zone = fuzsbanel::Zone::open("example.", "@ 300 SOA ns hostmaster 1 2 3 4 5", &[])?;
     /// let mut reader = zone.share()?;
     /// let before = reader.text()?;
     /// assert_eq!(zone.raise_serial(), Ok(2));

@@ -24,7 +24,7 @@ mod wire_form;
 
 pub use ask::{build_notify, build_query, build_response, response, Reply, Response};
 pub use error::Error;
-pub use held::{Transfer, Zone};
+pub use held::{Applied, Transfer, Zone};
 pub use mnemonic::{
     class_number, class_text, code_number, code_text, type_number, type_text, version,
 };
@@ -125,17 +125,7 @@ pub fn zone_check(
     text: &str,
     included: &[(&str, &str)],
 ) -> Result<Option<Fault>, Error> {
-    let lengths: Vec<_> = included
-        .iter()
-        .map(|(name, text)| calls::Included {
-            name_len: name.len(),
-            text_len: text.len(),
-        })
-        .collect();
-    let bytes: String = included
-        .iter()
-        .flat_map(|&(name, text)| [name, text])
-        .collect();
+    let (lengths, bytes) = calls::crossing(included);
     let (mut name, mut words) = (Vec::new(), Vec::new());
     let mut found = calls::FaultFound::default();
     loop {

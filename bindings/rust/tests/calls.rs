@@ -121,22 +121,23 @@ fn a_message_is_shown() {
 
 #[test]
 fn a_zone_is_held() {
-    let mut zone = fuzsbanel::Zone::open("example.", ZONE).unwrap();
-    assert_eq!(zone.update(CREATION), Ok(0));
-    assert_eq!(zone.update(CREATION), Ok(7)); // YXRRSet (RFC 2136, 2.2)
+    let mut zone = fuzsbanel::Zone::open("example.", ZONE, &[]).unwrap();
+    let told = |code, is_changed| Ok(fuzsbanel::Applied { code, is_changed });
+    assert_eq!(zone.update(CREATION), told(0, true));
+    assert_eq!(zone.update(CREATION), told(7, false)); // YXRRSet (RFC 2136, 2.2)
     assert_eq!(zone.update(&CREATION[..11]), Err(Error::Short));
     let applied = fuzsbanel::apply(CREATION, "example.", ZONE).unwrap();
     let text = zone.text().unwrap();
     assert_eq!(applied, format!("NoError\n{text}"));
     let moved = std::thread::spawn(move || zone.text());
     assert_eq!(moved.join().unwrap(), Ok(text));
-    let refused = fuzsbanel::Zone::open("", ZONE).err();
+    let refused = fuzsbanel::Zone::open("", ZONE, &[]).err();
     assert_eq!(refused, Some(Error::NoOrigin));
 }
 
 #[test]
 fn a_zone_is_transferred() {
-    let mut zone = fuzsbanel::Zone::open("example.", ZONE).unwrap();
+    let mut zone = fuzsbanel::Zone::open("example.", ZONE, &[]).unwrap();
     let serial = zone.raise_serial().unwrap();
     let query = fuzsbanel::zone_transfer(2, "example.", None).unwrap();
     let messages: Vec<_> = zone.transfer(&query).map(Result::unwrap).collect();
@@ -146,13 +147,13 @@ fn a_zone_is_transferred() {
     assert!(zone.transfer(RESPONSE).next().is_none());
     let cut: Vec<_> = zone.transfer(&query[..11]).collect();
     assert_eq!(cut, [Err(Error::Short)]);
-    let mut empty = fuzsbanel::Zone::open("example.", "").unwrap();
+    let mut empty = fuzsbanel::Zone::open("example.", "", &[]).unwrap();
     assert_eq!(empty.raise_serial(), Err(Error::NoSoa));
 }
 
 #[test]
 fn a_zone_answers() {
-    let mut zone = fuzsbanel::Zone::open("example.", ZONE).unwrap();
+    let mut zone = fuzsbanel::Zone::open("example.", ZONE, &[]).unwrap();
     // RFC 2308, 2.1: no name, and the SOA; a response, and less than a header, are answered by nothing
     let query = b"\0\x09\x01\0\0\x01\0\0\0\0\0\0\x03www\x07example\0\0\x01\0\x01";
     let answer = zone.answer(query, Some(512)).unwrap().unwrap();

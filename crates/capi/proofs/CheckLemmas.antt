@@ -1,6 +1,6 @@
 -- What the check of zone text tells.
 use Rattle.std.proofs.Common.{◌≡◌, ◌⊎◌, ◌∙◌, ◌++◌, ◌+◌, ◌<◌, ℕ, List, [], ◌∷◌, ap, drop, get_or, length, refl, sym}
-use Rattle.std.proofs.Common.{take, Option, Some, Ok, Err, Bool, true, false, cond, inl, inr}
+use Rattle.std.proofs.Common.{take, None, Option, Some, Ok, Err, Result, Bool, true, false, cond, inl, inr}
 use Rattle.std.proofs.lemmas.List.{drop_more, map-append}
 use Rattle.std.specs.BTreeMap.{BTreeMap, get_by_text}
 use Rattle.std.specs.Map.{update}
@@ -8,17 +8,24 @@ use Rattle.std.specs.Prelude.{String, map, neg_ℤ, option_map, pos, ℤ}
 use Rattle.std.specs.Str.{bytes_eq}
 use Rattle.std.specs.String.{string_bytes}
 use Rattle.std.specs.declared.alloc.Global.{Global}
+use Rattle.base.specs.ParseError.{parse_number}
 use Rattle.base.specs.names.Labels.{NameValue}
+use Rattle.base.specs.texts.TextFaults.{FailsBy, FailsWith, Fault, fault_of}
+use Rattle.base.specs.declared.error.parse_error.ParseError.{ParseError}
+use Rattle.parsed_zone.proofs.TextLemmas.{number_told}
+use Rattle.parsed_zone.specs.Faults.{HasFault, by_number, in_text, numbered, of_text}
+use Rattle.parsed_zone.specs.declared.refusal.ZoneRefusal.TheVariants as refusals
 use Rattle.txt.proofs.TextsLemmas.{texts_are}
 use Rattle.txt.specs.Faults.{inclusion_value}
 use Rattle.txt.specs.Parser.{ParserValue, named_texts, text_among, texts_in}
-use Rattle.txt.specs.Zone.{Texts, no_texts, placed_zone_by}
+use Rattle.txt.specs.Zone.{Texts, generic_zone_of, no_texts, placed_zone_by, unplaced}
+use Rattle.txt.specs.ZoneSets.{ZoneSets}
 use Rattle.txt.specs.declared.zone.fault.Inclusion.{Inclusion}
 use Rattle.capi.specs.Answer.{Asked, ◌>>=◌}
-use Rattle.capi.specs.ZoneCheck.{IsChecked, ToldFault, fault_told, fronted, last_name, told_value, with_texts}
+use Rattle.capi.specs.ZoneCheck.{IsChecked, ToldFault, fault_told, fronted, last_name, told_value}
 use Rattle.capi.specs.ZoneCheck.{zone_checked}
-use Rattle.capi.specs.ZoneText.{characters, origin_of_text}
-use Rattle.capi.specs.declared.zone_check.Included.{Included}
+use Rattle.capi.specs.ZoneText.{characters, origin_of_text, with_texts, zone_asked, zone_name_of}
+use Rattle.capi.specs.declared.included.Included.{Included}
 use Rattle.capi.specs.declared.zone_check.Told.{Told}
 
 -- the text that was opened last is named
@@ -108,6 +115,67 @@ pub zone_parsed : (generic : Bool) (origin : Option NameValue) (text : List ℕ)
 zone_parsed generic origin text includes p is =
     ap (λ (texts : Texts). placed_zone_by generic texts origin text) (texts_are includes)
     ∙ ap (λ (q : ParserValue). placed_zone_by generic (text_among q.includes) q.origin q.text) (sym is)
+
+-- a refusal of the parser has the number of its fault
+parser_refused : {A : Type 0} (e : ParseError) (made : Result A Fault) → FailsWith e made
+    → (parse_number e ≡ 3) ⊎ (numbered made ≡ Err (parse_number e))
+parser_refused {A} e made fails = go (number_told (refusals.Parse e) (of_text made) (named (fault_of e) fails)) where
+  named : (fault : Option Fault) → FailsBy fault made → HasFault (option_map in_text fault) (of_text made)
+  named None is = tt
+  named (Some fault) is = ap of_text is
+
+  same : (result : Result A Fault) → numbered result ≡ by_number (of_text result)
+  same (Ok x) = refl
+  same (Err fault) = refl
+
+  go : (parse_number e ≡ 3) ⊎ (by_number (of_text made) ≡ Err (parse_number e))
+      → (parse_number e ≡ 3) ⊎ (numbered made ≡ Err (parse_number e))
+  go (inl memory) = inl memory
+  go (inr is) = inr (same made ∙ is)
+
+-- the zone of an origin and a text, by what was made of the words of a call
+pub zone_is : (origin text : List ℕ) (included : List Included) (bytes : List ℕ) (zone : NameValue) (chars : List ℕ)
+    (texts : Texts)
+    → zone_name_of origin ≡ Ok zone → characters text ≡ Ok chars → with_texts no_texts included bytes ≡ Ok texts
+    → zone_asked origin text included bytes
+    ≡ (numbered (generic_zone_of texts (Some zone) chars) >>= λ parsed. Ok (zone, parsed.1))
+zone_is origin text included bytes zone chars texts named text_is texts_are =
+    ap (λ (asked : Asked NameValue). asked >>= λ z. characters text >>= λ cs.
+    with_texts no_texts included bytes >>= λ ts.
+    numbered (generic_zone_of ts (Some z) cs) >>= λ parsed. Ok (z, parsed.1)) named
+    ∙ ap (λ (asked : Asked (List ℕ)). asked >>= λ cs. with_texts no_texts included bytes >>= λ ts.
+    numbered (generic_zone_of ts (Some zone) cs) >>= λ parsed. Ok (zone, parsed.1)) text_is
+    ∙ ap (λ (asked : Asked Texts). asked >>= λ ts.
+    numbered (generic_zone_of ts (Some zone) chars) >>= λ parsed. Ok (zone, parsed.1)) texts_are
+
+-- what a parser makes of that text is the zone's, or its refusal
+module _ (origin text : List ℕ) (included : List Included) (bytes : List ℕ) (zone : NameValue) (chars : List ℕ)
+    (includes : BTreeMap (String Global) (String Global)) (p : ParserValue)
+    (named : zone_name_of origin ≡ Ok zone) (text_is : characters text ≡ Ok chars)
+    (texts_are_in : with_texts no_texts included bytes ≡ Ok (texts_in includes))
+    (is : p ≡ record { text = chars; includes = named_texts includes; origin = Some zone }) where
+  parsed_is : generic_zone_of (texts_in includes) (Some zone) chars
+      ≡ generic_zone_of (text_among p.includes) p.origin p.text
+  parsed_is = ap unplaced (zone_parsed true (Some zone) chars includes p is)
+
+  pub zone_made : (found : NameValue × ZoneSets)
+      → generic_zone_of (text_among p.includes) p.origin p.text ≡ Ok found
+      → zone_asked origin text included bytes ≡ Ok (zone, found.1)
+  zone_made found made = zone_is origin text included bytes zone chars (texts_in includes) named text_is texts_are_in
+      ∙ ap (λ (it : Result (NameValue × ZoneSets) Fault). numbered it >>= λ parsed. Ok (zone, parsed.1))
+      (parsed_is ∙ made)
+
+  pub zone_refused : (e : ParseError) → FailsWith e (generic_zone_of (text_among p.includes) p.origin p.text)
+      → (parse_number e ≡ 3) ⊎ (zone_asked origin text included bytes ≡ Err (parse_number e))
+  zone_refused e fails = go (parser_refused e _ fails) where
+    go : (parse_number e ≡ 3)
+        ⊎ (numbered (generic_zone_of (text_among p.includes) p.origin p.text) ≡ Err (parse_number e))
+        → (parse_number e ≡ 3) ⊎ (zone_asked origin text included bytes ≡ Err (parse_number e))
+    go (inl memory) = inl memory
+    go (inr refused) = inr (
+        zone_is origin text included bytes zone chars (texts_in includes) named text_is texts_are_in
+        ∙ ap (λ (it : Asked (NameValue × ZoneSets)). it >>= λ parsed. Ok (zone, parsed.1))
+        (ap numbered parsed_is ∙ refused))
 
 -- the fault of a text, by what was made of the words of a call
 pub checked_is : (origin text : List ℕ) (included : List Included) (bytes : List ℕ) (under : Option NameValue)

@@ -7,7 +7,7 @@ use Rattle.std.specs.BTreeMap.{BTreeMap, IsUnchanged, get, is_at}
 use Rattle.std.specs.List.{IsAmong}
 use Rattle.std.specs.Map.{KeepsOthers, lookup}
 use Rattle.std.specs.Ordering.{eq_by_cmp}
-use Rattle.std.specs.Prelude.{map, neg_ℤ, option_map, pos, true, false}
+use Rattle.std.specs.Prelude.{Bool, map, neg_ℤ, option_map, pos, true, false, ◌≢◌}
 use Rattle.std.specs.FinMap as fin
 use Rattle.base.specs.RrKey.{key_cmp, key_of}
 use Rattle.base.specs.declared.dns_class.DNSClass.TheVariants as classes
@@ -15,7 +15,8 @@ use Rattle.base.specs.declared.record_type.RecordType.TheVariants as types
 use Rattle.base.specs.declared.rr_key.RrKey.{RrKey}
 use Rattle.base.specs.names.Labels.{NameValue}
 use Rattle.op.specs.declared.response_code.ResponseCode.{ResponseCode}
-use Rattle.op_use.specs.Applying.{HasSameSets, IsApplied, IsZoneMap, applied, entry_of, records_applied, records_in}
+use Rattle.op_use.specs.Applying.{HasSameSets, IsApplied, IsChangeTold, IsZoneMap, applied, entry_of, records_applied}
+use Rattle.op_use.specs.Applying.{records_in}
 use Rattle.op_use.specs.Applying.{zone_of_map}
 use Rattle.op_use.proofs.WholeSteps.{applied_copy}
 use Rattle.op_use.specs.RaisedSerial.{IsRaised, IsRaisedTo, raised_set}
@@ -24,9 +25,12 @@ use Rattle.rr.specs.RecordSet.{SetValue}
 use Rattle.rr.specs.SetChanges.{last_ttl}
 use Rattle.std.specs.Option.{option_and_then}
 use Rattle.std.specs.declared.alloc.Global.{Global}
-use Rattle.capi.specs.Holding.{Shares, is_shared, zone_held, zone_in}
-use Rattle.capi.specs.ZoneHandle.{IsOpenAt, IsRaisedIn, IsRaising, IsServed, IsSharing, IsSpared, IsUpdated, IsUpdating}
-use Rattle.capi.specs.ZoneHandle.{ZoneParts, parts_of}
+use Rattle.capi.specs.Answer.{Asked}
+use Rattle.capi.specs.Holding.{EndsAlone, IsAlone, Shares, is_own, is_shared, zone_held, zone_in}
+use Rattle.capi.specs.Refusals.{closed}
+use Rattle.capi.specs.ZoneHandle.{IsHeld, IsOpen, IsOpenAt, IsRaisedIn, IsRaising, IsServed, IsSharing, IsSpared}
+use Rattle.capi.specs.ZoneHandle.{IsUpdated, IsUpdating}
+use Rattle.capi.specs.ZoneHandle.{IsRaisingHeld, ZoneParts, parts_in, parts_of}
 use Rattle.capi.specs.declared.refusal.Refusal.{Refusal}
 use Rattle.capi.specs.declared.zone_handle.held.HeldZone.{HeldZone}
 use Rattle.capi.specs.declared.zone_handle.holding.Holding.{Holding}
@@ -68,10 +72,15 @@ module _ (a z new : HeldZone) (result : ℤ) (same : parts_of z ≡ parts_of a) 
   sets : z.sets.entries ≡ a.sets.entries
   sets = ap (λ (x : ZoneParts). x.1) same
 
-  updated_copy : (update : List ℕ) → IsUpdated update z new result → IsUpdated update a new result
-  updated_copy update (origin, is) = (origin ∙ origins, go is) where
-    go : IsServed update z new result ⊎ IsSpared update z new result
-        → IsServed update a new result ⊎ IsSpared update a new result
+  told_copy : (is_changed : Bool) → IsChangeTold is_changed z.sets new.sets → IsChangeTold is_changed a.sets new.sets
+  told_copy true (k, other) = (k, λ same. other (same ∙ sym (found a.sets z.sets sets k)))
+  told_copy false same = spared_copy a.sets z.sets sets new.sets same
+
+  updated_copy : (update : List ℕ) (is_changed : Bool) → IsUpdated update z new is_changed result
+      → IsUpdated update a new is_changed result
+  updated_copy update is_changed (origin, is) = (origin ∙ origins, go is) where
+    go : IsServed update z new is_changed result ⊎ IsSpared update z new is_changed result
+        → IsServed update a new is_changed result ⊎ IsSpared update a new is_changed result
     go (inl served) = inl (record {
       message = served.message;
       read = served.read;
@@ -79,10 +88,12 @@ module _ (a z new : HeldZone) (result : ℤ) (same : parts_of z ≡ parts_of a) 
       applied = applied_copy a.origin classes.IN a.sets z.sets new.sets sets (sections_of served.message) served.code
           (subst (λ o. IsApplied o classes.IN (sections_of served.message) z.sets served.code new.sets) origins
           served.applied);
+      told = told_copy is_changed served.told;
       is = served.is;
     })
     go (inr spared) = inr (record {
       sets = spared_copy a.sets z.sets sets new.sets spared.sets;
+      told = spared.told;
       number = spared.number;
       why = spared.why;
       is = spared.is;
@@ -107,12 +118,12 @@ some_parts other (Some parts) = parts
 some_parts other None = other
 
 -- a zone that was made the handle's own is updated as what the handle held
-pub updating_own : (update : List ℕ) (old : Option HeldZone) (z new : HeldZone) (result : ℤ)
-    → Some (parts_of z) ≡ option_map parts_of old → IsUpdated update z new result
-    → IsUpdating update old (Some new) result
-updating_own update None z new result same is = absurd cc
-updating_own update (Some a) z new result same is =
-    (new, refl, updated_copy a z new result (ap (some_parts (parts_of a)) same) update is)
+pub updating_own : (update : List ℕ) (old : Option HeldZone) (z new : HeldZone) (is_changed : Bool) (result : ℤ)
+    → Some (parts_of z) ≡ option_map parts_of old → IsUpdated update z new is_changed result
+    → IsUpdating update old (Some new) is_changed result
+updating_own update None z new is_changed result same is = absurd cc
+updating_own update (Some a) z new is_changed result same is =
+    (new, refl, updated_copy a z new result (ap (some_parts (parts_of a)) same) update is_changed is)
 
 -- and so is its serial raised
 pub raising_own : (old : Option HeldZone) (z new : HeldZone) (result : ℤ)
@@ -123,10 +134,10 @@ raising_own (Some a) z new result same is =
 
 -- a zone that is shared, and wasn't copied since memory ran out, stays
 pub updating_stays : (update : List ℕ) (old new : Holding) → is_shared old ≡ true → zone_in new ≡ zone_in old
-    → IsUpdating update (zone_in old) (zone_in new) (neg_ℤ (pos 3))
+    → IsUpdating update (zone_in old) (zone_in new) false (neg_ℤ (pos 3))
 updating_stays update (holdings.Own z) new is same = absurd cc
 updating_stays update (holdings.Shared z) new is same =
-    (arc_value z, same, (refl, inr (record { sets = λ k. refl; number = 3; why = inl refl; is = refl })))
+    (arc_value z, same, (refl, inr (record { sets = λ k. refl; told = refl; number = 3; why = inl refl; is = refl })))
 updating_stays update holdings.Empty new is same = absurd cc
 
 -- a handle that was opened at what is shared shares it
@@ -142,3 +153,67 @@ pub sharing_refused : (zone : Option HeldZone) (refusal : Refusal) (old : Option
     → Shares zone (Err refusal) → result ≡ neg_ℤ (pos refusal.number) → IsSharing zone old old result
 sharing_refused None refusal old result is told = (refl, told ∙ ap (λ n. neg_ℤ (pos n)) is)
 sharing_refused (Some z) refusal old result is told = inr (refl, told ∙ ap (λ n. neg_ℤ (pos n)) is)
+
+-- ---- opening
+
+-- the number of a refusal
+abbrev refused_by : Asked ZoneParts → ℕ
+refused_by (Ok parts) = 0
+refused_by (Err number) = number
+
+module _ (asked : Asked ZoneParts) (old new : Option Holding) (result : ℤ) where
+  -- what comes of a zone that is asked for is opened, or memory ran out
+  abbrev pub IsOpenedAs : Type 0
+  IsOpenedAs = ((made : Asked ZoneParts) × IsHeld asked made × IsOpen made old new result)
+      ⊎ IsOpen (Err 3) old new result
+
+  pub opening_made : (zone : HeldZone)
+      → IsHeld asked (Ok (parts_of zone)) ⊎ (◌≡◌ {A = Asked ZoneParts} (Ok (parts_of zone)) (Err 3))
+      → IsOpenAt (holdings.Own zone) old new result → IsOpenedAs
+  opening_made zone (inl held) (inl (opened, zero)) = inl (
+    Ok (parts_of zone),
+    held,
+    (ap (λ h. option_map parts_of (zone_held h)) opened, subst IsAlone (sym opened) refl, zero),
+  )
+  opening_made zone (inr memory) (inl opened) = absurd cc
+  opening_made zone made (inr stays) = inr stays
+
+  pub opening_refused : (number : ℕ)
+      → IsHeld asked (Err number) ⊎ (◌≡◌ {A = Asked ZoneParts} (Err number) (Err 3)) → new ≡ old
+      → result ≡ neg_ℤ (pos number) → IsOpenedAs
+  opening_refused number (inl held) stays is = inl (Err number, held, (stays, is))
+  opening_refused number (inr memory) stays is = inr (stays, is ∙ ap (λ e. neg_ℤ (pos (refused_by e))) memory)
+
+-- ---- who holds the zone
+
+-- a handle that is left with a zone of its own
+pub ends_own : (old : Option Holding) (zone : HeldZone) (result : ℤ) → EndsAlone old (Some (holdings.Own zone)) result
+ends_own old zone result = record { stays = λ alone. refl; answered = λ n is. refl }
+
+-- one that was refused for memory, as its zone is shared
+pub ends_shared : (old new : Holding) → is_shared old ≡ true → EndsAlone (Some old) (Some new) (neg_ℤ (pos 3))
+ends_shared (holdings.Own zone) new shared = absurd cc
+ends_shared (holdings.Shared zone) new shared = record { stays = λ alone. absurd cc; answered = λ n is. absurd cc }
+ends_shared holdings.Empty new shared = record { stays = λ alone. absurd cc; answered = λ n is. absurd cc }
+
+-- and one whose zone is neither shared nor its own
+pub ends_empty : (old new : Holding) → is_own new ≡ false → is_shared new ≡ false → parts_in new ≡ parts_in old
+    → EndsAlone (Some old) (Some new) (neg_ℤ (pos closed))
+ends_empty (holdings.Own zone) (holdings.Own other) own shared same = absurd cc
+ends_empty (holdings.Own zone) (holdings.Shared other) own shared same = absurd cc
+ends_empty (holdings.Own zone) holdings.Empty own shared same = absurd cc
+ends_empty (holdings.Shared zone) new own shared same =
+    record { stays = λ alone. absurd cc; answered = λ n is. absurd cc }
+ends_empty holdings.Empty new own shared same = record { stays = λ alone. absurd cc; answered = λ n is. absurd cc }
+
+-- raising the serial is refused for memory where the zone is shared alone
+pub never_refused : (old new : Option Holding) (result : ℤ) → IsRaisingHeld old new result → IsAlone old
+    → result ≢ neg_ℤ (pos 3)
+never_refused None new result is alone refused = absurd alone
+never_refused (Some (holdings.Own zone)) new result (inl (z, is, (origin, (Some serial, raised, told)))) alone refused =
+    absurd cc
+never_refused (Some (holdings.Own zone)) new result (inl (z, is, (origin, (None, raised, told)))) alone refused =
+    absurd cc
+never_refused (Some (holdings.Own zone)) new result (inr (shared, same, is)) alone refused = absurd cc
+never_refused (Some (holdings.Shared zone)) new result is alone refused = absurd cc
+never_refused (Some holdings.Empty) new result is alone refused = absurd cc

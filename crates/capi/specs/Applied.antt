@@ -1,7 +1,7 @@
 -- What applying an update to zone text is asked for.
 use Rattle.std.specs.FinMap as fin
 use Rattle.std.specs.List.{list_any}
-use Rattle.std.specs.Prelude.{Bool, Err, List, Ok, false, if◌then◌else◌, length, nat_le, not, true, ℕ, ◌&&◌}
+use Rattle.std.specs.Prelude.{Bool, Err, List, Ok, [], false, if◌then◌else◌, length, nat_le, not, true, ℕ, ◌&&◌}
 use Rattle.base.specs.names.Labels.{NameValue}
 use Rattle.base.specs.declared.record_type.RecordType.{RecordType}
 use Rattle.base.specs.declared.record_type.RecordType.TheVariants as types
@@ -25,7 +25,7 @@ UpdateOfZone = Sections × (NameValue × ZoneSets)
 -- the update that the bytes begin with, and that zone
 abbrev pub update_and_zone : List ℕ → List ℕ → List ℕ → Asked UpdateOfZone
 update_and_zone update origin text =
-    message_of update >>= λ m. zone_asked origin text >>= λ zone. Ok (sections_of m, zone)
+    message_of update >>= λ m. zone_asked origin text [] [] >>= λ zone. Ok (sections_of m, zone)
 
 -- the type ANAME, of which the text of a zone can say one record of an owner
 abbrev pub is_aname : RecordType → Bool

@@ -1,16 +1,14 @@
 -- What the check of zone text is asked for: whether the text is refused, for what, and where.
-use Rattle.std.specs.Map.{update}
 use Rattle.std.specs.Prelude.{◌≡◌, ◌++◌, ℕ, ℤ, List, [], ◌∷◌, drop, length, neg_ℤ, pos, take, true}
 use Rattle.std.specs.Prelude.{Option, Some, None, Result, Ok, Err}
-use Rattle.std.specs.Str.{bytes_eq}
 use Rattle.std.specs.String.{string_bytes}
 use Rattle.txt.specs.Places.{Position}
-use Rattle.txt.specs.Zone.{PlacedFault, Texts, no_texts, placed_zone_by}
+use Rattle.txt.specs.Zone.{PlacedFault, no_texts, placed_zone_by}
 use Rattle.parsed_zone.specs.Faults.{fault_number}
 use Rattle.capi.specs.Answer.{Asked, ◌>>=◌}
-use Rattle.capi.specs.ZoneText.{characters, origin_of_text}
+use Rattle.capi.specs.ZoneText.{characters, origin_of_text, with_texts}
 use Rattle.capi.specs.declared.zone_check.FaultFound.{FaultFound}
-use Rattle.capi.specs.declared.zone_check.Included.{Included}
+use Rattle.capi.specs.declared.included.Included.{Included}
 use Rattle.capi.specs.declared.zone_check.Told.{Told}
 
 -- a fault as it is told: its number, the name of the included text that it stands in, if it is one, and its place there
@@ -32,16 +30,6 @@ fault_told (Err found) = Some (record {
   name = last_name [] found.opened;
   position = found.position;
 })
-
--- These texts, and those that stand in bytes one after the other, each after its name, of so many bytes each. The last
--- of a name stands.
-abbrev pub with_texts : Texts → List Included → List ℕ → Asked Texts
-with_texts texts [] bytes = Ok texts
-with_texts texts (first ∷ more) bytes =
-    characters (take first.name_len bytes) >>= λ name.
-    characters (take first.text_len (drop first.name_len bytes)) >>= λ text.
-    with_texts (update bytes_eq texts name (Some text)) more
-    (drop first.text_len (drop first.name_len bytes))
 
 -- the fault of a text under the origin that a text names, if it does, where these texts may be included
 abbrev pub zone_checked : List ℕ → List ℕ → List Included → List ℕ → Asked (Option ToldFault)

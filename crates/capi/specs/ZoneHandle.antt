@@ -16,7 +16,7 @@ use Rattle.authority.specs.declared.sending.Carrier.TheVariants as carriers
 use Rattle.authority.specs.declared.sending.Carrier.{Carrier}
 use Rattle.base.specs.ProtoError.{proto_number}
 use Rattle.base.specs.declared.error.proto_error.ProtoError.{ProtoError}
-use Rattle.op_use.specs.Applying.{HasSameSets, IsApplied, zone_of_map}
+use Rattle.op_use.specs.Applying.{HasSameSets, IsApplied, IsChangeTold, zone_of_map}
 use Rattle.op_use.specs.RaisedSerial.{IsRaised}
 use Rattle.op_use.specs.Server.{sections_of}
 use Rattle.parsed_zone.specs.Classes.{are_sets_in}
@@ -25,10 +25,11 @@ use Rattle.rr.specs.RecordSet.{SetValue}
 use Rattle.txt.specs.ZoneSets.{ZoneSets}
 use Rattle.capi.specs.Answer.{Asked}
 use Rattle.capi.specs.Applied.{are_anames}
-use Rattle.capi.specs.Holding.{IsShared, zone_held, zone_in}
+use Rattle.capi.specs.Holding.{IsAlone, IsShared, zone_held, zone_in}
 use Rattle.capi.specs.Message.{message_of}
 use Rattle.capi.specs.Refusals.{closed, no_soa, not_on_wire, other_class, two_anames}
 use Rattle.capi.specs.ZoneText.{FitsWire, IsZoneText, zone_asked}
+use Rattle.capi.specs.declared.included.Included.{Included}
 use Rattle.capi.specs.declared.refusal.Refusal.{Refusal}
 use Rattle.capi.specs.declared.zone_handle.held.HeldZone.{HeldZone}
 use Rattle.capi.specs.declared.zone_handle.holding.Holding.{Holding}
@@ -61,53 +62,63 @@ abbrev pub parts_made : Result HeldZone Refusal → Asked ZoneParts
 parts_made (Ok zone) = Ok (parts_of zone)
 parts_made (Err refusal) = Err refusal.number
 
--- What was made comes of this origin and this text; or memory ran out.
-abbrev pub Opens : List ℕ → List ℕ → Result HeldZone Refusal → Type 0
-Opens origin text made = IsHeld (zone_asked origin text) (parts_made made) ⊎ (parts_made made ≡ Err 3)
+-- What was made comes of this origin and this text, which may include these; or memory ran out.
+abbrev pub Opens : List ℕ → List ℕ → List Included → List ℕ → Result HeldZone Refusal → Type 0
+Opens origin text included bytes made = IsHeld (zone_asked origin text included bytes) (parts_made made)
+    ⊎ (parts_made made ≡ Err 3)
 
 -- A handle holds this, and 0 is answered; or memory ran out, and it holds what it held.
 abbrev pub IsOpenAt : Holding → Option Holding → Option Holding → ℤ → Type 0
 IsOpenAt holding old new result = ((new ≡ Some holding) × (result ≡ pos 0))
     ⊎ ((new ≡ old) × (result ≡ neg_ℤ (pos 3)))
 
--- The handle holds the zone that was made, and 0 is answered; or it holds what it held, and a refusal is.
-abbrev pub IsOpen : Asked ZoneParts → Option HeldZone → Option HeldZone → ℤ → Type 0
-IsOpen (Ok parts) old new result = (option_map parts_of new ≡ Some parts) × (result ≡ pos 0)
+-- The handle alone holds the zone that was made, and 0 is answered; or it holds what it held, and a refusal is.
+abbrev pub IsOpen : Asked ZoneParts → Option Holding → Option Holding → ℤ → Type 0
+IsOpen (Ok parts) old new result =
+    (option_map parts_of (zone_held new) ≡ Some parts) × IsAlone new × (result ≡ pos 0)
 IsOpen (Err number) old new result = (new ≡ old) × (result ≡ neg_ℤ (pos number))
 
--- That is so of what comes of this origin and this text, or memory ran out.
-abbrev pub IsOpened : List ℕ → List ℕ → Option HeldZone → Option HeldZone → ℤ → Type 0
-IsOpened origin text old new result =
-    ((made : Asked ZoneParts) × IsHeld (zone_asked origin text) made × IsOpen made old new result)
+-- That is so of what comes of this origin and this text, which may include these, or memory ran out.
+abbrev pub IsOpened : List ℕ → List ℕ → List Included → List ℕ → Option Holding → Option Holding → ℤ
+    → Type 0
+IsOpened origin text included bytes old new result =
+    ((made : Asked ZoneParts) × IsHeld (zone_asked origin text included bytes) made × IsOpen made old new result)
     ⊎ IsOpen (Err 3) old new result
 
 -- ---- updating
 
--- The zone is what a server makes of the update that the bytes begin with, and the code is answered.
-pub record IsServed (update : List ℕ) (old new : HeldZone) (result : ℤ) : Type 0 where
+-- The zone is what a server makes of the update that the bytes begin with, the code is answered, and whether some set
+-- is
+-- another than it was.
+pub record IsServed (update : List ℕ) (old new : HeldZone) (is_changed : Bool) (result : ℤ)
+    : Type 0 where
   pub message : MessageValue
   pub read : message_of update ≡ Ok message
   pub code : ResponseCode
   pub applied : IsApplied old.origin classes.IN (sections_of message) old.sets code new.sets
+  pub told : IsChangeTold is_changed old.sets new.sets
   pub is : result ≡ pos (code_number code)
 
 -- Each set stays as it was; the bytes begin with no message, or memory ran out.
-pub record IsSpared (update : List ℕ) (old new : HeldZone) (result : ℤ) : Type 0 where
+pub record IsSpared (update : List ℕ) (old new : HeldZone) (is_changed : Bool) (result : ℤ)
+    : Type 0 where
   pub sets : HasSameSets old.sets new.sets
+  pub told : is_changed ≡ false
   pub number : ℕ
   pub why : (number ≡ 3) ⊎ (message_of update ≡ Err number)
   pub is : result ≡ neg_ℤ (pos number)
 
 -- One of both; and the origin stays in any case.
-abbrev pub IsUpdated : List ℕ → HeldZone → HeldZone → ℤ → Type 0
-IsUpdated update old new result = (new.origin ≡ old.origin)
-    × (IsServed update old new result ⊎ IsSpared update old new result)
+abbrev pub IsUpdated : List ℕ → HeldZone → HeldZone → Bool → ℤ → Type 0
+IsUpdated update old new is_changed result = (new.origin ≡ old.origin)
+    × (IsServed update old new is_changed result ⊎ IsSpared update old new is_changed result)
 
 -- The zone of the handle is updated so; a closed handle stays closed, and says so.
-abbrev pub IsUpdating : List ℕ → Option HeldZone → Option HeldZone → ℤ → Type 0
-IsUpdating update None new result = (new ≡ None) × (result ≡ neg_ℤ (pos closed))
-IsUpdating update (Some old) new result =
-    (zone : HeldZone) × (new ≡ Some zone) × IsUpdated update old zone result
+abbrev pub IsUpdating : List ℕ → Option HeldZone → Option HeldZone → Bool → ℤ → Type 0
+IsUpdating update None new is_changed result =
+    (new ≡ None) × (is_changed ≡ false) × (result ≡ neg_ℤ (pos closed))
+IsUpdating update (Some old) new is_changed result =
+    (zone : HeldZone) × (new ≡ Some zone) × IsUpdated update old zone is_changed result
 
 -- ---- raising the serial
 

@@ -1,22 +1,35 @@
 -- What calls on zone text are asked for.
 use Rattle.std.specs.List.{AllByRecursion}
-use Rattle.std.specs.Map.{values_of}
-use Rattle.std.specs.Prelude.{All, ℕ, List, [], ◌∷◌, ◌==◌, ◌≡◌, if◌then◌else◌, length, Option, Some, None, Ok, Err}
+use Rattle.std.specs.Map.{update, values_of}
+use Rattle.std.specs.Prelude.{All, ℕ, List, [], ◌∷◌, ◌==◌, ◌≡◌, drop, if◌then◌else◌, length, take, Option, Some, None}
+use Rattle.std.specs.Prelude.{Ok, Err}
 use Rattle.std.specs.Prelude.{true}
-use Rattle.std.specs.Str.{is_utf8}
+use Rattle.std.specs.Str.{bytes_eq, is_utf8}
 use Rattle.base.specs.names.Labels.{NameValue}
 use Rattle.base.specs.texts.NameOf.{name_of}
 use Rattle.rr.specs.Record.{FitsRecord}
 use Rattle.rr.specs.RecordSet.{SetValue}
+use Rattle.txt.specs.Zone.{Texts, generic_zone_of, no_texts}
 use Rattle.txt.specs.ZoneSets.{ZoneSets}
 use Rattle.parsed_zone.specs.Faults.{by_number, numbered}
 use Rattle.parsed_zone.specs.ZoneText.{generic_zone_of_bytes, zone_lines}
 use Rattle.capi.specs.Answer.{Asked, ◌>>=◌}
 use Rattle.capi.specs.Refusals.{no_origin, not_on_wire, not_utf8}
+use Rattle.capi.specs.declared.included.Included.{Included}
 
 -- a text of characters
 abbrev pub characters : List ℕ → Asked (List ℕ)
 characters text = if is_utf8 text then Ok text else Err not_utf8
+
+-- These texts, and those that stand in bytes one after the other, each after its name, of so many bytes each. The last
+-- of a name stands.
+abbrev pub with_texts : Texts → List Included → List ℕ → Asked Texts
+with_texts texts [] bytes = Ok texts
+with_texts texts (first ∷ more) bytes =
+    characters (take first.name_len bytes) >>= λ name.
+    characters (take first.text_len (drop first.name_len bytes)) >>= λ text.
+    with_texts (update bytes_eq texts name (Some text)) more
+    (drop first.text_len (drop first.name_len bytes))
 
 -- the name of a text
 abbrev pub name_of_text : List ℕ → Asked NameValue
@@ -41,10 +54,12 @@ zone_under origin text = by_number (generic_zone_of_bytes origin text)
 abbrev pub zone_of_text : List ℕ → List ℕ → Asked (NameValue × ZoneSets)
 zone_of_text origin text = origin_of_text origin >>= λ under. zone_under under text
 
--- the zone of the origin that a text names, with the sets of another text
-abbrev pub zone_asked : List ℕ → List ℕ → Asked (NameValue × ZoneSets)
-zone_asked origin text =
-    zone_name_of origin >>= λ zone. zone_under (Some zone) text >>= λ parsed. Ok (zone, parsed.1)
+-- the zone of the origin that a text names, with the sets of another text, which may include these
+abbrev pub zone_asked : List ℕ → List ℕ → List Included → List ℕ → Asked (NameValue × ZoneSets)
+zone_asked origin text included bytes =
+    zone_name_of origin >>= λ zone. characters text >>= λ chars.
+    with_texts no_texts included bytes >>= λ texts.
+    numbered (generic_zone_of texts (Some zone) chars) >>= λ parsed. Ok (zone, parsed.1)
 
 -- Each record of the sets can stand on the wire, so each name of its data is absolute (RFC 1035, 3.1 and 3.2.1).
 abbrev pub FitsWire : ZoneSets → Type 0

@@ -92,6 +92,6 @@ fn update_and_zone(
     ensures kept { IfOk result (λ x. AreKeyed x.2.entries) }
 {
     let message = message_of(alloc, update)?;
-    let (zone, sets) = zone_asked(alloc, origin, text)?;
+    let (zone, sets) = zone_asked(alloc, origin, text, &[], &[])?;
     Ok((message, zone, sets))
 }

@@ -8,6 +8,7 @@ mod answer;
 mod applied;
 mod fits;
 mod header;
+mod included;
 mod message;
 mod mnemonic;
 mod query;

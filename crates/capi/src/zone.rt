@@ -7,6 +7,7 @@ ghost use Rattle.capi.specs.ZoneText.{IsCanonical, characters, name_of_text, ori
 
 use crate::answer::give;
 use crate::fits::fits_wire;
+use crate::included::{Included, included_texts};
 use crate::refusal::Refusal;
 use base::{Name, RrKey};
 use parsed_zone::{generic_zone_of_bytes, zone_lines};
@@ -14,6 +15,7 @@ use rr::RecordSet;
 use std::alloc::Global;
 use std::collections::BTreeMap;
 use std::str;
+use txt::Parser;
 
 /// Writes the zone of a text into the caller's buffer, as zone text: the origin, and each record on a line of its own,
 /// in the order of owners and types (RFC 1035, 5.1). The origin is the text of a name, or empty for none. No text is
@@ -121,22 +123,29 @@ pub fn zone_name_of(alloc: Global, text: &[u8]) -> Result<Name, Refusal>
     Ok(name)
 }
 
-/// The zone of the origin that a text names, with the sets of another text: an `$ORIGIN` of that is of names alone.
+/// The zone of the origin that a text names, with the sets of another text, which may include these: an `$ORIGIN` of it
+/// is of names alone.
 ///
 /// # Errors
 ///
-/// Those of `zone_name_of`, and then those of `zone_under`.
+/// Those of `zone_name_of`; 24 for a text that isn't UTF-8, and the number of what the parser refuses.
 pub fn zone_asked(
     alloc: Global,
     origin: &[u8],
     text: &[u8],
+    included: &[Included],
+    included_bytes: &[u8],
 ) -> Result<(Name, BTreeMap<RrKey, RecordSet>), Refusal>
-    ensures made { Makes (λ r. (r.0, r.1.entries)) (zone_asked origin.now text.now) result }
+    ensures made { Makes (λ r. (r.0, r.1.entries))
+        (zone_asked origin.now text.now included.now included_bytes.now) result }
     // Each set stands under the key of its owner and type, has a record and is tidy.
     ensures kept { IfOk result (λ r. AreKeyed r.1.entries) }
 {
     let zone = zone_name_of(alloc, origin)?;
-    let (_origin, sets) = zone_under(alloc, Some(zone.clone()?), text)?;
+    let text = characters_of(text)?;
+    let texts = included_texts(alloc, included, included_bytes)?;
+    let origin = Some(zone.clone()?);
+    let (_origin, sets) = Parser::new(alloc, text, &texts, origin).parse_generic()?;
     Ok((zone, sets))
 }
 

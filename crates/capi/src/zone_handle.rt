@@ -5,9 +5,9 @@
 
 ghost use Rattle.std.specs.List.{list_any};
 ghost use Rattle.std.specs.Option.{option_map};
-ghost use Rattle.std.specs.Prelude.{◌≡◌, None, Some, false};
+ghost use Rattle.std.specs.Prelude.{◌≡◌, ◌≢◌, None, Some, false, neg_ℤ, pos};
 ghost use Rattle.capi.specs.Answer.{IsAnswered, IsAnsweredBy, Makes, MakesBy};
-ghost use Rattle.capi.specs.Holding.{zone_held, zone_in};
+ghost use Rattle.capi.specs.Holding.{EndsAlone, IsAlone, zone_held, zone_in};
 ghost use Rattle.capi.specs.ZoneHandle.{answer_asked, answer_of, carrier, IsHeldText, IsOpenAt, IsOpened, IsRaisedIn, IsRaisingHeld, IsSharing, IsTextOf, IsUpdated, IsUpdating, Opens};
 
 pub mod handle;
@@ -20,6 +20,7 @@ pub mod transfer;
 use crate::answer::{give, number, refusal_code};
 use crate::applied::has_two_anames;
 use crate::fits::fits_wire;
+use crate::included::Included;
 use crate::message::message_of;
 use crate::refusal::Refusal;
 use crate::zone::zone_asked;
@@ -29,14 +30,14 @@ use handle::ZoneHandle;
 use held::HeldZone;
 use holding::Holding;
 use loose::Loose;
-use op_use::{raise_serial, update_in_place};
+use op_use::{apply_in_place, raise_serial};
 use parsed_zone::{are_sets_in, zone_lines};
 use std::alloc::{AllocError, Global};
 use std::mem;
 
 /// Opens a handle at the zone of an origin, whose records are those of a text, and answers 0. What the handle held
 /// before is freed. The text is read as `fuzsbanel_apply` reads one: an `$ORIGIN` of it is that of names, and never of
-/// the zone.
+/// the zone. The texts that it may include are handed in as `fuzsbanel_zone_check` takes them.
 ///
 /// # Errors
 ///
@@ -47,12 +48,14 @@ pub extern "C" fn fuzsbanel_zone_open(
     alloc: Global,
     origin: &[u8],
     text: &[u8],
+    included: &[Included],
+    included_bytes: &[u8],
     handle: &mut ZoneHandle,
 ) -> i64
-    ensures { IsOpened origin.now text.now (zone_held handle.old.zone)
-        (zone_held handle.new.zone) result }
+    ensures { IsOpened origin.now text.now included.now included_bytes.now handle.old.zone
+        handle.new.zone result }
 {
-    match zone_of(alloc, origin, text) {
+    match zone_of(alloc, origin, text, included, included_bytes) {
         Ok(zone) => open_at(alloc, handle, Holding::Own(zone)),
         Err(refusal) => number(Err(refusal)),
     }
@@ -61,7 +64,8 @@ pub extern "C" fn fuzsbanel_zone_open(
 /// Applies an update to the zone, where it is, and answers the server's code (RFC 2136, 2.2 and 3): 0 for NoError, and
 /// the zone is changed. With any other code, and where the call is refused, each set stays as it was. An update costs
 /// what it names, and no more for a larger zone; where other handles share the zone it is copied first, and those keep it as
-/// it was. The SOA's serial stays as it is.
+/// it was. The SOA's serial stays as it is. With `is_changed` the zone is another than before: a server raises the serial
+/// then (RFC 2136, 3.6), and not for an update that leaves each set as it was.
 ///
 /// # Errors
 ///
@@ -71,12 +75,16 @@ pub extern "C" fn fuzsbanel_zone_update(
     alloc: Global,
     handle: &mut ZoneHandle,
     update: &[u8],
+    is_changed: &mut bool,
 ) -> i64
-    ensures { IsUpdating update.now (zone_held handle.old.zone) (zone_held handle.new.zone) result }
+    ensures updating { IsUpdating update.now (zone_held handle.old.zone) (zone_held handle.new.zone)
+        is_changed.new result }
+    ensures alone { EndsAlone handle.old.zone handle.new.zone result }
 {
+    *is_changed = false;
     match take(alloc, handle) {
         Some(mut holding) => {
-            let code = update_held(alloc, &mut holding, update);
+            let code = update_held(alloc, &mut holding, update, is_changed);
             put(handle, holding);
             code
         }
@@ -93,7 +101,10 @@ pub extern "C" fn fuzsbanel_zone_update(
 /// 34 for a closed handle, and 35 for a zone that has not exactly one record of SOA data as its SOA. The zone stays then.
 #[unsafe(no_mangle)]
 pub extern "C" fn fuzsbanel_zone_raise_serial(alloc: Global, handle: &mut ZoneHandle) -> i64
-    ensures { IsRaisingHeld handle.old.zone handle.new.zone result }
+    ensures raising { IsRaisingHeld handle.old.zone handle.new.zone result }
+    // Of a handle that holds its zone alone it is never refused for memory.
+    ensures memory { IsAlone handle.old.zone → result ≢ neg_ℤ (pos 3) }
+    ensures alone { EndsAlone handle.old.zone handle.new.zone result }
 {
     match take(alloc, handle) {
         Some(mut holding) => {
@@ -203,21 +214,25 @@ pub extern "C" fn fuzsbanel_zone_close(alloc: Global, handle: &mut ZoneHandle)
 }
 
 /// Applies an update to the zone that a handle holds, and answers its code, or minus the number of a refusal.
-fn update_held(alloc: Global, holding: &mut Holding, update: &[u8]) -> i64
-    ensures { IsUpdating update.now (zone_in holding.old) (zone_in holding.new) result }
+fn update_held(alloc: Global, holding: &mut Holding, update: &[u8], is_changed: &mut bool) -> i64
+    requires { is_changed.old ≡ false }
+    ensures updating { IsUpdating update.now (zone_in holding.old) (zone_in holding.new)
+        is_changed.new result }
+    ensures alone { EndsAlone (Some holding.old) (Some holding.new) result }
 {
     if let Err(e) = holding.make_own() {
         return refusal_code(e.into());
     }
     match holding {
-        Holding::Own(zone) => update_zone(alloc, zone, update),
+        Holding::Own(zone) => update_zone(alloc, zone, update, is_changed),
         Holding::Shared(_) | Holding::Empty => refusal_code(Refusal::CLOSED),
     }
 }
 
 /// Raises the serial of the zone that a handle holds, and answers it, or minus the number of a refusal.
 fn raise_held(alloc: Global, holding: &mut Holding) -> i64
-    ensures { IsRaisingHeld (Some holding.old) (Some holding.new) result }
+    ensures raising { IsRaisingHeld (Some holding.old) (Some holding.new) result }
+    ensures alone { EndsAlone (Some holding.old) (Some holding.new) result }
 {
     if let Err(e) = holding.make_own() {
         return refusal_code(e.into());
@@ -228,11 +243,17 @@ fn raise_held(alloc: Global, holding: &mut Holding) -> i64
     }
 }
 
-/// The zone of an origin, with the sets of a text.
-fn zone_of(alloc: Global, origin: &[u8], text: &[u8]) -> Result<HeldZone, Refusal>
-    ensures { Opens origin.now text.now result }
+/// The zone of an origin, with the sets of a text, which may include these.
+fn zone_of(
+    alloc: Global,
+    origin: &[u8],
+    text: &[u8],
+    included: &[Included],
+    included_bytes: &[u8],
+) -> Result<HeldZone, Refusal>
+    ensures { Opens origin.now text.now included.now included_bytes.now result }
 {
-    let (origin, sets) = zone_asked(alloc, origin, text)?;
+    let (origin, sets) = zone_asked(alloc, origin, text, included, included_bytes)?;
     if !fits_wire(&sets) {
         return Err(Refusal::NOT_ON_WIRE);
     }
@@ -244,15 +265,19 @@ fn zone_of(alloc: Global, origin: &[u8], text: &[u8]) -> Result<HeldZone, Refusa
 }
 
 /// Applies an update to a zone, and answers its code, or minus the number of a refusal.
-fn update_zone(alloc: Global, zone: &mut HeldZone, update: &[u8]) -> i64
-    ensures { IsUpdated update.now zone.old zone.new result }
+fn update_zone(alloc: Global, zone: &mut HeldZone, update: &[u8], is_changed: &mut bool) -> i64
+    requires { is_changed.old ≡ false }
+    ensures { IsUpdated update.now zone.old zone.new is_changed.new result }
 {
     let message = match message_of(alloc, update) {
         Ok(message) => message,
         Err(refusal) => return number(Err(refusal)),
     };
-    match update_in_place(alloc, &mut zone.sets, &zone.origin, DNSClass::IN, &message) {
-        Ok(code) => i64::from(u16::from(code)),
+    match apply_in_place(alloc, &mut zone.sets, &zone.origin, DNSClass::IN, &message) {
+        Ok(applied) => {
+            *is_changed = applied.is_changed;
+            i64::from(u16::from(applied.code))
+        }
         Err(e) => number(Err(Refusal::from(e))),
     }
 }

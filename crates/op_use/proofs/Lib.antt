@@ -21,6 +21,7 @@ mod OwnerRuns
 pub mod RaisedLemmas
 mod ServerRowsLemmas
 mod SettleSteps
+mod ToldSteps
 pub mod TypeSteps
 mod UpdateSteps
 pub mod WalkSteps

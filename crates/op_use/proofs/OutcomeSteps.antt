@@ -62,6 +62,14 @@ settled_by named (Some w) None new same filled some none = inr (none (and-false 
 settled_by false None (Some s) new same filled some none = inl (none refl, ap records_in (sym (same refl s refl)))
 settled_by false (Some w) (Some s) new same filled some none = inl (none refl, ap records_in (sym (same refl s refl)))
 
+-- a set that goes was there
+noted_alters : (old now : Option SetValue) → changed (noted old now) old ≡ old → noted old now ≡ no_change
+noted_alters None now e = refl
+noted_alters (Some w) (Some s) e = refl
+noted_alters (Some w) None e = absurd (some e) where
+  some : None ≡ Some w → ⊥
+  some e = absurd cc
+
 module _ (old now : Option SetValue) (c : Change) where
   some_settled : (b : Bool) (first : Change) → SettlesAt b old now first c → b ≡ true
       → IsSettled old now (changed c old)
@@ -76,7 +84,11 @@ module _ (old now : Option SetValue) (c : Change) where
   fits_by : (b : Bool) → SettlesAt b old now (noted old now) c → FitsThere c old
   fits_by true h = h.1
   fits_by false h = subst (λ (x : Change). FitsThere x old) (sym h)
-      (record { absent = λ e. absurd (true≢false (sym e)); there = λ e. absurd (true≢false (sym e)) })
+      (record {
+        absent = λ e. absurd (true≢false (sym e));
+        there = λ e. absurd (true≢false (sym e));
+        alters = noted_alters old now;
+      })
 
 kept_by : (old now new : Option SetValue) → IsSettled old now new → records_in new ≡ records_in old → new ≡ old
 kept_by old now new (inl h) same = h.0
@@ -267,7 +279,11 @@ leaves_own z rs us q c e h = record {
 -- where no update names the owner
 leaves_none : (z : HeldZone) (q : RrKey) (c : Change) → IsZoneMap z.class z.sets → c ≡ no_change → Leaves [] z q c
 leaves_none z q c before e = subst (λ (x : Change). Leaves [] z q x) (sym e) (record {
-  fits = record { absent = λ e. absurd (true≢false (sym e)); there = λ e. absurd (true≢false (sym e)) };
+  fits = record {
+    absent = λ e. absurd (true≢false (sym e));
+    there = λ e. absurd (true≢false (sym e));
+    alters = λ e. refl;
+  };
   left = record { fits = before q; exact = refl; source = λ s e. inl e };
   kept = λ e. refl;
 })

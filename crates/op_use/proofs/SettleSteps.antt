@@ -8,7 +8,8 @@ use Rattle.op_use.proofs.KeySets.{Sets, each_key, key_in, put_beside, put_here}
 use Rattle.op_use.proofs.ZoneSteps.{tied}
 use Rattle.op_use.specs.Applying.{HasSameSets, IsZoneMap, records_in}
 use Rattle.op_use.specs.MapUpdates.{LacksKeys, has_key, names_set}
-use Rattle.op_use.specs.Outcome.{Change, FitsThere, HasNothing, IsSettled, Settles, SettlesAt, added_at, change_at, changed}
+use Rattle.op_use.specs.Outcome.{Change, FitsThere, HasNothing, IsSettled, Settles, SettlesAt, added_at, change_at}
+use Rattle.op_use.specs.Outcome.{changed}
 use Rattle.op_use.specs.Outcome.{found}
 use Rattle.op_use.specs.Outcome.{no_change}
 use Rattle.op_use.specs.Server.{is_under}
@@ -152,7 +153,7 @@ module _ (rs : List (Record RData)) (r : Record RData) (all : List (Record RData
         → IsSettling all was now after old mid
     settling_same w there same = next_is mid (settled no_change _ nothing
         (inl (refl, sym same ∙ sym (ap records_in there)))
-        (record { absent = λ e. absurd cc; there = λ e. absurd cc })) (λ q e. refl)
+        (record { absent = λ e. absurd cc; there = λ e. absurd cc; alters = λ e. refl })) (λ q e. refl)
 
     -- it is another than was there
     pub settling_replaced : (w : SetValue) (next : Outcome) → tree.get key_cmp was k ≡ Some w → w.records ≢ s.records
@@ -166,7 +167,11 @@ module _ (rs : List (Record RData)) (r : Record RData) (all : List (Record RData
           is_gone = (ap (λ (v : _). has_key k v.items) g ∙ ap (λ (c : Change). c.is_gone) nothing) i;
         })
         (inr (refl, λ same. other (sym (same ∙ ap records_in there))))
-        (record { absent = λ e. absurd cc; there = λ e. ap is_some there }))
+        (record {
+          absent = λ e. absurd cc;
+          there = λ e. ap is_some there;
+          alters = λ e. absurd (other (sym (ap records_in (e ∙ there))));
+        }))
         (λ q e i. record {
           added = found (a i).items q;
           replaced = (ap (λ es. found es q) r ∙ found_beside mid.replaced.items k q s e) i;
@@ -185,7 +190,11 @@ module _ (rs : List (Record RData)) (r : Record RData) (all : List (Record RData
           is_gone = (ap (λ (v : _). has_key k v.items) g ∙ ap (λ (c : Change). c.is_gone) nothing) i;
         })
         (inr (refl, λ same. (fits k s stands.0).filled (same ∙ ap records_in none)))
-        (record { absent = λ e. none; there = λ e. absurd cc }))
+        (record {
+          absent = λ e. none;
+          there = λ e. absurd cc;
+          alters = λ e. absurd ((fits k s stands.0).filled (ap records_in (e ∙ none)));
+        }))
         (λ q e i. record {
           added = (ap (λ es. found es q) a ∙ found_beside mid.added.items k q s e) i;
           replaced = found (r i).items q;

@@ -131,6 +131,11 @@ KeepsSame old new = (k : RrKey) → records_at new k ≡ records_at old k
 abbrev pub HasSameSets : BTreeMap RrKey SetValue → BTreeMap RrKey SetValue → Type 0
 HasSameSets old new = (k : RrKey) → tree.get key_cmp new k ≡ tree.get key_cmp old k
 
+-- whether some set is another than it was, in some field
+abbrev pub IsChangeTold : Bool → BTreeMap RrKey SetValue → BTreeMap RrKey SetValue → Type 0
+IsChangeTold true old new = (k : RrKey) × (tree.get key_cmp new k ≢ tree.get key_cmp old k)
+IsChangeTold false old new = HasSameSets old new
+
 -- The code and the new map are those that a server makes of the zone; the new map may be updated again; what no update
 -- names stays; each record was there or came with the updates; each set was there or has the TTL of the last of its
 -- records; which records, how spelled and in which order is told too; and a set whose records are the same stays.

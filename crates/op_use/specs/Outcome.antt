@@ -60,10 +60,12 @@ abbrev pub Installs : Outcome → BTreeMap RrKey SetValue → BTreeMap RrKey Set
 Installs o old new = (q : RrKey)
     → tree.get key_cmp new q ≡ changed (change_at o q) (tree.get key_cmp old q)
 
--- a change fits what a map has: a set is added where there is none, and replaced where there is one
+-- a change fits what a map has: a set is added where there is none, and replaced where there is one; and something else
+-- stands there then, unless nothing is changed
 pub record FitsThere (c : Change) (old : Option SetValue) : Type 0 where
   pub absent : is_some c.added ≡ true → old ≡ None
   pub there : is_some c.replaced ≡ true → is_some old ≡ true
+  pub alters : changed c old ≡ old → c ≡ no_change
 
 -- the changes of an outcome fit a map
 abbrev pub IsOutcome : Outcome → BTreeMap RrKey SetValue → Type 0
@@ -84,6 +86,11 @@ UpdatesTo rs z o = (q : RrKey) → Leaves rs z q (change_at o q)
 -- an outcome has nothing under a key
 abbrev pub HasNothing : Outcome → RrKey → Type 0
 HasNothing o q = change_at o q ≡ no_change
+
+-- whether an outcome has something under some key
+abbrev pub HasAny : Bool → Outcome → Type 0
+HasAny true o = (q : RrKey) × (change_at o q ≢ no_change)
+HasAny false o = (q : RrKey) → HasNothing o q
 
 -- the new outcome is the old one, and under an owner's keys leaves what the updates rs do
 pub record UpdatesOwner (owner : NameValue) (rs : List (Record RData)) (z : HeldZone) (old new : Outcome)

@@ -3,7 +3,7 @@
 ghost use Rattle.op_use.specs.Outcome.{IsAnswer};
 ghost use Rattle.std.specs.Prelude.{◌≡◌, IfOk, IsOkUnless, OnErr};
 ghost use Rattle.op.specs.Message.{message_value};
-ghost use Rattle.op_use.specs.Applying.{HasSameSets, IsApplied, IsZoneMap};
+ghost use Rattle.op_use.specs.Applying.{HasSameSets, IsApplied, IsChangeTold, IsZoneMap};
 ghost use Rattle.op_use.specs.HeldZone.{zone_held};
 ghost use Rattle.op_use.specs.Server.{fault as fault_of, sections_of};
 
@@ -90,12 +90,53 @@ pub fn update_in_place(
     ensures refused { OnErr result (HasSameSets sets.old sets.new) }
     ensures only { IsOkUnless result ProtoError.Memory }
 {
+    Ok(apply_in_place(alloc, sets, origin, class, message)?.code)
+}
+
+/// What came of an update.
+#[derive(Clone, Copy, Debug, Drop, PartialEq, Eq)]
+pub struct Applied {
+    /// The server's code (RFC 2136, 2.2).
+    pub code: ResponseCode,
+    /// Whether some set is another than before, in some field. A server raises the zone's serial then (RFC 2136, 3.6).
+    pub is_changed: bool,
+}
+
+/// Does as `update_in_place` does, and tells beside the code whether that changed anything: with NoError an update may
+/// leave each set as it was, as one that adds what is there.
+///
+/// # Errors
+///
+/// If memory runs out.
+pub fn apply_in_place(
+    alloc: Global,
+    sets: &mut BTreeMap<RrKey, RecordSet>,
+    origin: &Name,
+    class: DNSClass,
+    message: &Message,
+) -> Result<Applied, ProtoError>
+    requires { IsZoneMap class sets.old }
+    // The code and the sets are those that a server makes of the zone (RFC 2136, 3).
+    ensures applied { IfOk result
+        (λ a. IsApplied origin.now class (sections_of (message_value message.now)) sets.old
+        a.code sets.new) }
+    ensures told { IfOk result (λ a. IsChangeTold a.is_changed sets.old sets.new) }
+    ensures refused { OnErr result (HasSameSets sets.old sets.new) }
+    ensures only { IsOkUnless result ProtoError.Memory }
+{
     let answer = find_answer(sets, origin, class, message)?;
     match answer {
-        Answer::Refused(code) => Ok(code),
+        Answer::Refused(code) => Ok(Applied {
+            code,
+            is_changed: false,
+        }),
         Answer::Done(outcome) => {
+            let is_changed = outcome.has_any();
             outcome.install(alloc, sets)?;
-            Ok(ResponseCode::NoError)
+            Ok(Applied {
+                code: ResponseCode::NoError,
+                is_changed,
+            })
         }
     }
 }

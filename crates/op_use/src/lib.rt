@@ -9,7 +9,7 @@ pub mod serial_message;
 pub mod server_rows;
 pub mod update_message;
 
-pub use apply::{apply_update, is_supported_type, update_in_place};
+pub use apply::{Applied, apply_in_place, apply_update, is_supported_type, update_in_place};
 pub use dns_response::DnsResponse;
 pub use serial::raise_serial;
 pub use serial_message::SerialMessage;

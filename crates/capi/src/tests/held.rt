@@ -1,5 +1,6 @@
 //! A zone that is held: each export on it, over updates of RFC 2136.
 
+use crate::included::Included;
 use crate::update::{fuzsbanel_create, fuzsbanel_delete_all};
 use crate::zone_handle::handle::ZoneHandle;
 use crate::zone_handle::{
@@ -20,17 +21,18 @@ fn a_closed_handle_says_so(rt: HostRuntime) {
     let mut handle = ZoneHandle::closed();
     let mut out = [7; 8];
     let mut needed = 9;
-    let updated = fuzsbanel_zone_update(rt.alloc(), &mut handle, WWW);
+    let mut is_changed = true;
+    let updated = fuzsbanel_zone_update(rt.alloc(), &mut handle, WWW, &mut is_changed);
     let written = fuzsbanel_zone_text(rt.alloc(), &mut handle, &mut out, &mut needed);
     fuzsbanel_zone_close(rt.alloc(), &mut handle);
     free(rt.alloc(), handle);
-    assert!(rt; updated == -34 && written == -34 && needed == 0 && out[0] == 7);
+    assert!(rt; !is_changed && updated == -34 && written == -34 && needed == 0 && out[0] == 7);
 }
 
 /// What opening a handle at these answers, which is closed again.
 fn opened(alloc: Global, origin: &[u8], text: &[u8]) -> i64 {
     let mut handle = ZoneHandle::closed();
-    let answer = fuzsbanel_zone_open(alloc, origin, text, &mut handle);
+    let answer = fuzsbanel_zone_open(alloc, origin, text, &[], &[], &mut handle);
     fuzsbanel_zone_close(alloc, &mut handle);
     free(alloc, handle);
     answer
@@ -67,7 +69,7 @@ fn a_zone_answers(rt: HostRuntime) {
     let mut handle = ZoneHandle::closed();
     let mut out = [7; 64];
     let mut needed = 0;
-    let opened = fuzsbanel_zone_open(rt.alloc(), ORIGIN, SERVED, &mut handle);
+    let opened = fuzsbanel_zone_open(rt.alloc(), ORIGIN, SERVED, &[], &[], &mut handle);
     // the received bytes, by a stream or in a datagram, and what is sent: nothing for a response, or for no header
     let rows: &[(&[u8], bool, &[u8])] = &[
         (QUERY, false, ANSWER),
@@ -104,7 +106,8 @@ fn code(alloc: Global, handle: &mut ZoneHandle, update: &[u8], len: i64) -> i64 
     if len < 0 || len as usize > update.len() {
         return len;
     }
-    fuzsbanel_zone_update(alloc, handle, &update[..len as usize])
+    let mut is_changed = false;
+    fuzsbanel_zone_update(alloc, handle, &update[..len as usize], &mut is_changed)
 }
 
 #[test]
@@ -112,12 +115,12 @@ fn a_zone_is_updated_where_it_is(rt: HostRuntime) {
     let mut handle = ZoneHandle::closed();
     let mut out = [0; 256];
     let mut needed = 0;
-    let opened = fuzsbanel_zone_open(rt.alloc(), ORIGIN, ZONE, &mut handle);
+    let opened = fuzsbanel_zone_open(rt.alloc(), ORIGIN, ZONE, &[], &[], &mut handle);
     let len = fuzsbanel_create(rt.alloc(), 1, ORIGIN, WWW, false, &mut out, &mut needed);
     let first = code(rt.alloc(), &mut handle, &out, len);
     let again = code(rt.alloc(), &mut handle, &out, len);
     let cut = code(rt.alloc(), &mut handle, &out, 11);
-    let refused = fuzsbanel_zone_open(rt.alloc(), ORIGIN, b"www 300 A", &mut handle);
+    let refused = fuzsbanel_zone_open(rt.alloc(), ORIGIN, b"www 300 A", &[], &[], &mut handle);
     let len = fuzsbanel_delete_all(rt.alloc(), 2, ORIGIN, b"ns", false, &mut out, &mut needed);
     let gone = code(rt.alloc(), &mut handle, &out, len);
     let mut small = [0; 78];
@@ -135,4 +138,91 @@ www.example. 300 IN A 192.0.2.2\n";
     assert!(rt;
         none == -100 && written == lines.len() as i64 && needed == lines.len() && are_lines
     );
+}
+
+/// Updates of `example.` (RFC 2136, 2): `a` gets an address, another TTL of it, another address that is taken away in the
+/// same message, and is deleted; `ns` loses its address and gets it again; `a` gets an address if `b` is there; a zone
+/// section of another type.
+const ADDED: &[u8] = b"\0\x01\x28\0\0\x01\0\0\0\x01\0\0\x07example\0\0\x06\0\x01\
+\x01a\xc0\x0c\0\x01\0\x01\0\0\0\x3c\0\x04\xc0\0\x02\x07";
+
+const OTHER_TTL: &[u8] = b"\0\x01\x28\0\0\x01\0\0\0\x01\0\0\x07example\0\0\x06\0\x01\
+\x01a\xc0\x0c\0\x01\0\x01\0\0\0\x3d\0\x04\xc0\0\x02\x07";
+
+const UNDONE: &[u8] = b"\0\x01\x28\0\0\x01\0\0\0\x02\0\0\x07example\0\0\x06\0\x01\
+\x01a\xc0\x0c\0\x01\0\x01\0\0\0\x3c\0\x04\xc0\0\x02\x08\
+\x01a\xc0\x0c\0\x01\0\xfe\0\0\0\0\0\x04\xc0\0\x02\x08";
+
+const DELETED: &[u8] = b"\0\x01\x28\0\0\x01\0\0\0\x01\0\0\x07example\0\0\x06\0\x01\
+\x01a\xc0\x0c\0\x01\0\xff\0\0\0\0\0\0";
+
+const AGAIN: &[u8] = b"\0\x01\x28\0\0\x01\0\0\0\x02\0\0\x07example\0\0\x06\0\x01\
+\x02ns\xc0\x0c\0\x01\0\xff\0\0\0\0\0\0\
+\x02ns\xc0\x0c\0\x01\0\x01\0\0\0\x3c\0\x04\xc0\0\x02\x01";
+
+const REFUSED: &[u8] = b"\0\x01\x28\0\0\x01\0\x01\0\x01\0\0\x07example\0\0\x06\0\x01\
+\x01b\xc0\x0c\0\xff\0\xff\0\0\0\0\0\0\
+\x01a\xc0\x0c\0\x01\0\x01\0\0\0\x3c\0\x04\xc0\0\x02\x07";
+
+const NO_ZONE: &[u8] = b"\0\x01\x28\0\0\x01\0\0\0\0\0\0\x07example\0\0\x01\0\x01";
+
+#[test]
+fn a_change_is_told(rt: HostRuntime) {
+    let alloc = rt.alloc();
+    let mut handle = ZoneHandle::closed();
+    let opened = fuzsbanel_zone_open(alloc, ORIGIN, ZONE, &[], &[], &mut handle);
+    let rows: &[(&[u8], i64, bool)] = &[
+        (ADDED, 0, true),
+        (ADDED, 0, false),
+        (UNDONE, 0, false),
+        (OTHER_TTL, 0, true),
+        (REFUSED, 3, false),
+        (NO_ZONE, 1, false),
+        (b"", -4, false),
+        (DELETED, 0, true),
+        (DELETED, 0, false),
+        (AGAIN, 0, false),
+    ];
+    let mut are_told = true;
+    for &(update, wanted, changes) in rows {
+        let mut is_changed = !changes;
+        let code = fuzsbanel_zone_update(alloc, &mut handle, update, &mut is_changed);
+        are_told = are_told && code == wanted && is_changed == changes;
+    }
+    fuzsbanel_zone_close(alloc, &mut handle);
+    free(alloc, handle);
+    assert!(rt; opened == 0 && are_told);
+}
+
+/// Two texts that may be included, each after its name; the first includes the second.
+const INCLUDED: &[Included] = &[
+    Included {
+        name_len: 5,
+        text_len: 16,
+    },
+    Included {
+        name_len: 4,
+        text_len: 20,
+    },
+];
+
+const BYTES: &[u8] = b"hosts\n$INCLUDE more\n\nmorewww 300 A 192.0.2.2\n";
+
+#[test]
+fn a_zone_includes_texts(rt: HostRuntime) {
+    let alloc = rt.alloc();
+    let mut handle = ZoneHandle::closed();
+    let mut out = [7; 64];
+    let mut needed = 0;
+    let text = b"$INCLUDE hosts\n";
+    let none = fuzsbanel_zone_open(alloc, ORIGIN, text, &[], &[], &mut handle);
+    let one = fuzsbanel_zone_open(alloc, ORIGIN, text, &INCLUDED[..1], BYTES, &mut handle);
+    let opened = fuzsbanel_zone_open(alloc, ORIGIN, text, INCLUDED, BYTES, &mut handle);
+    let written = fuzsbanel_zone_text(alloc, &mut handle, &mut out, &mut needed);
+    fuzsbanel_zone_close(alloc, &mut handle);
+    free(alloc, handle);
+    let lines: &[u8] = b"$ORIGIN example.\nwww.example. 300 IN A 192.0.2.2\n";
+    let are_lines = out.starts_with(lines);
+    assert!(rt; none == -20 && one == -20 && opened == 0);
+    assert!(rt; written == lines.len() as i64 && are_lines);
 }

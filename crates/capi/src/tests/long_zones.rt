@@ -80,7 +80,7 @@ fn a_transfer_goes_on_at_a_long_name(rt: HostRuntime) {
     };
     let mut out = [7; 128];
     let mut needed = 0;
-    let opened = fuzsbanel_zone_open(rt.alloc(), ORIGIN, ZONE, &mut handle);
+    let opened = fuzsbanel_zone_open(rt.alloc(), ORIGIN, ZONE, &[], &[], &mut handle);
     let served = fuzsbanel_zone_serve_transfer(
         rt.alloc(),
         &mut handle,

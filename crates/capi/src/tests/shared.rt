@@ -29,7 +29,8 @@ fn has_text(alloc: Global, handle: &mut ZoneHandle, text: &[u8]) -> bool {
     len == text.len() as i64 && needed == text.len() && out.starts_with(text)
 }
 
-/// What a handle answers to an update that adds an address, and then to raising the serial.
+/// What a handle answers to an update that adds an address, if it says that it changed anything, and then to raising the
+/// serial.
 fn updated(alloc: Global, handle: &mut ZoneHandle) -> (i64, i64) {
     let mut out = [0; 128];
     let mut needed = 0;
@@ -37,7 +38,11 @@ fn updated(alloc: Global, handle: &mut ZoneHandle) -> (i64, i64) {
     if len < 0 || len > 128 {
         return (len, 0);
     }
-    let code = fuzsbanel_zone_update(alloc, handle, &out[..len as usize]);
+    let mut is_changed = false;
+    let code = fuzsbanel_zone_update(alloc, handle, &out[..len as usize], &mut is_changed);
+    if !is_changed {
+        return (-1, 0);
+    }
     (code, fuzsbanel_zone_raise_serial(alloc, handle))
 }
 
@@ -47,7 +52,7 @@ fn handles_share_a_zone(rt: HostRuntime) {
     let mut handle = ZoneHandle::closed();
     let mut other = ZoneHandle::closed();
     let closed = fuzsbanel_zone_share(alloc, &mut handle, &mut other);
-    let opened = fuzsbanel_zone_open(alloc, ORIGIN, ZONE, &mut handle);
+    let opened = fuzsbanel_zone_open(alloc, ORIGIN, ZONE, &[], &[], &mut handle);
     assert!(rt; closed == -34 && opened == 0);
     // the second time the other is open
     let first = fuzsbanel_zone_share(alloc, &mut handle, &mut other);
@@ -75,7 +80,7 @@ fn a_serial_is_raised_in_a_copy(rt: HostRuntime) {
     let alloc = rt.alloc();
     let mut handle = ZoneHandle::closed();
     let mut other = ZoneHandle::closed();
-    let opened = fuzsbanel_zone_open(alloc, ORIGIN, ZONE, &mut handle);
+    let opened = fuzsbanel_zone_open(alloc, ORIGIN, ZONE, &[], &[], &mut handle);
     let shared = fuzsbanel_zone_share(alloc, &mut handle, &mut other);
     let raised = fuzsbanel_zone_raise_serial(alloc, &mut handle);
     let is_kept = has_text(alloc, &mut other, FIRST);

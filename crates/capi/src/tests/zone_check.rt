@@ -1,6 +1,7 @@
 //! Where zone text is refused: the number, the included text, line and column, and the words.
 
-use crate::zone_check::{FaultFound, Included, fuzsbanel_zone_check};
+use crate::included::Included;
+use crate::zone_check::{FaultFound, fuzsbanel_zone_check};
 
 /// Two texts that may be included, `a` twice and `b`, each after its name.
 const INCLUDED: &[Included] = &[

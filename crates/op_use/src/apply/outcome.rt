@@ -4,7 +4,7 @@ ghost use Rattle.base.specs.RrKey.{key_cmp};
 ghost use Rattle.base.specs.declared.rr_key.RrKey.{RrKey as Key};
 ghost use Rattle.op_use.specs.Applying.{HasSameSets};
 ghost use Rattle.op_use.specs.MapUpdates.{LacksKeys};
-ghost use Rattle.op_use.specs.Outcome.{Installs, IsOutcome, added_at, found};
+ghost use Rattle.op_use.specs.Outcome.{HasAny, Installs, IsOutcome, added_at, found};
 ghost use Rattle.std.specs.BTreeMap.{get};
 ghost use Rattle.std.specs.Map.{keys_of};
 ghost use Rattle.std.specs.Prelude.{IfOk, IsOk, OnErr, OnOk, false, is_some, true, ◌≡◌};
@@ -26,6 +26,13 @@ pub(crate) struct Outcome {
 }
 
 impl Outcome {
+    /// Whether anything changes.
+    pub(crate) fn has_any(&self) -> bool
+        ensures { HasAny result self.now }
+    {
+        !(self.added.is_empty() && self.replaced.is_empty() && self.gone.is_empty())
+    }
+
     /// Puts the sets into the zone. First those under new keys, which may be refused memory, and are then taken out
     /// again; what follows takes none.
     pub(crate) fn install(

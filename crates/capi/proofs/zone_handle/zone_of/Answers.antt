@@ -10,7 +10,8 @@ use Rattle.capi.proofs.zone_handle.zone_of.Goals as goal
 pub returns-in_err-origin : goal.returns-in_err-origin
 returns-in_err-origin c =
     let p = err_from_is_err_and c.from_residual.result c.from_residual.ensures.1 in
-    rw (p.1, p.2) (refusal_comes (IsHeld (zone_asked c.args.origin.now c.args.text.now))
+    rw (p.1, p.2) (refusal_comes (IsHeld (zone_asked c.args.origin.now c.args.text.now
+    c.args.included.now c.args.included_bytes.now))
     c.in_err-origin.field-0.0.number c.in_err-origin.ensures.made (λ is. refused is))
 
 pub returns-then-not-fits_wire : goal.returns-then-not-fits_wire

@@ -7,9 +7,9 @@ use Rattle.std.specs.String.{string_bytes}
 use Rattle.txt.specs.Parser.{texts_in}
 use Rattle.txt.specs.Zone.{no_texts}
 use Rattle.capi.proofs.CheckLemmas.{lengths_at, name_refused, text_more, text_refused, texts_on}
-use Rattle.capi.specs.ZoneCheck.{with_texts}
+use Rattle.capi.specs.ZoneText.{with_texts}
 use Rattle.capi.specs.ZoneText.{characters}
-use Rattle.capi.proofs.zone_check.included_texts.Goals as goal
+use Rattle.capi.proofs.included.included_texts.Goals as goal
 
 pub returns-in_err-name : goal.returns-in_err-name
 returns-in_err-name c =

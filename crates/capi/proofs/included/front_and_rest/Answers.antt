@@ -1,7 +1,7 @@
 use Rattle.std.proofs.Common.{rules, ap, drop, length, take, ℕ, ◌≡◌, ◌∙◌}
 use Rattle.std.proofs.lemmas.List.{drop_min, take_min}
 use Rattle.std.specs.Prelude.{min}
-use Rattle.capi.proofs.zone_check.front_and_rest.Goals as goal
+use Rattle.capi.proofs.included.front_and_rest.Goals as goal
 
 pub returns-clause-front : goal.returns-clause-front
 returns-clause-front c =
