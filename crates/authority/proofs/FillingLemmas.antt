@@ -170,6 +170,7 @@ module _ (origin : NameValue) (class : DNSClass) (sets : BTreeMap RrKey SetValue
         is_message = is;
         in_order = sym (f.moved ∙ ap (λ xs. xs ++ left place) none);
         some = some;
+        fits = omega (arith, counted);
         whole = subst (λ (x : MessageValue). AreWhole (parts_of 65535 x 12 [])) (sym is)
             (transfer_whole m place rs b.room some counted);
         full = subst (λ n. (is_end next ≡ true) ⊎ IsFull n (left next)) left_room full;

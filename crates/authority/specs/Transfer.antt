@@ -34,7 +34,7 @@ use Rattle.std.specs.BTreeMap.{BTreeMap, get}
 use Rattle.std.specs.FinMap as fin
 use Rattle.std.specs.List.{filter, flat_map}
 use Rattle.std.specs.Prelude.{Bool, List, None, Option, Some, [], drop, false, if◌then◌else◌, is_some, map, not, true}
-use Rattle.std.specs.Prelude.{ℕ, slice_get, ◌&&◌, ◌+◌, ◌++◌, ◌-◌, ◌<◌, ◌||◌, ◌∷◌, ◌≡◌, ◌≢◌, ◌⊎◌}
+use Rattle.std.specs.Prelude.{ℕ, slice_get, ◌&&◌, ◌+◌, ◌++◌, ◌-◌, ◌<◌, ◌||◌, ◌∷◌, ◌≡◌, ◌≢◌, ◌≤◌, ◌⊎◌}
 use Rattle.std.specs.declared.ops.Bound.TheVariants.{Included, Unbounded}
 
 -- the records of a set from its record of a number on, but for those without data, each with the least TTL (RFC 2181,
@@ -141,13 +141,15 @@ abbrev pub room_beside : List Query → ℕ
 room_beside qs = MAX_MESSAGE - (12 + 11 + plain_queries qs)
 
 -- A message of a transfer with this SOA, and the place after it: its answers, one at least, are the next of those that
--- are left; none of it is cut; and it ends only with the last, or before one that has no room.
+-- are left, and have room without compression; none of it is cut; and it ends only with the last, or before one that
+-- has no room.
 pub record IsNext (origin : NameValue) (class : DNSClass) (sets : BTreeMap RrKey SetValue) (soa : Record RData)
     (query : MessageValue) (place : TransferPlace) (message : MessageValue) (next : TransferPlace) : Type 0 where
   pub answers : List (Record RData)
   pub is_message : message ≡ transferring query place answers
   pub in_order : left_at origin class sets soa place ≡ answers ++ left_at origin class sets soa next
   pub some : answers ≢ []
+  pub fits : plain_records answers ≤ room_beside query.queries
   pub whole : AreWhole (parts_of MAX_MESSAGE message 12 [])
   pub full : (is_end next ≡ true)
       ⊎ IsFull (room_beside query.queries - plain_records answers) (left_at origin class sets soa next)
