@@ -4,25 +4,18 @@ use Rattle.std.proofs.Common.{◌⊎◌}
 use Rattle.std.specs.Arc.{arc_value}
 use Rattle.std.specs.declared.sync.Arc.{Arc}
 use Rattle.std.specs.BTreeMap.{BTreeMap, IsUnchanged, get, is_at}
-use Rattle.std.specs.List.{IsAmong}
 use Rattle.std.specs.Map.{KeepsOthers, lookup}
 use Rattle.std.specs.Ordering.{eq_by_cmp}
-use Rattle.std.specs.Prelude.{Bool, map, neg_ℤ, option_map, pos, true, false, ◌≢◌}
-use Rattle.std.specs.FinMap as fin
+use Rattle.std.specs.Prelude.{Bool, neg_ℤ, option_map, pos, true, false, ◌≢◌}
 use Rattle.base.specs.RrKey.{key_cmp, key_of}
 use Rattle.base.specs.declared.dns_class.DNSClass.TheVariants as classes
 use Rattle.base.specs.declared.record_type.RecordType.TheVariants as types
 use Rattle.base.specs.declared.rr_key.RrKey.{RrKey}
-use Rattle.base.specs.names.Labels.{NameValue}
-use Rattle.op.specs.declared.response_code.ResponseCode.{ResponseCode}
-use Rattle.op_use.specs.Applying.{HasSameSets, IsApplied, IsChangeTold, IsZoneMap, applied, entry_of, records_applied}
-use Rattle.op_use.specs.Applying.{records_in}
-use Rattle.op_use.specs.Applying.{zone_of_map}
+use Rattle.op_use.specs.Applying.{HasSameSets, IsApplied, IsChangeTold}
 use Rattle.op_use.proofs.WholeSteps.{applied_copy}
 use Rattle.op_use.specs.RaisedSerial.{IsRaised, IsRaisedTo, raised_set}
-use Rattle.op_use.specs.Server.{Sections, sections_of}
+use Rattle.op_use.specs.Server.{sections_of}
 use Rattle.rr.specs.RecordSet.{SetValue}
-use Rattle.rr.specs.SetChanges.{last_ttl}
 use Rattle.std.specs.Option.{option_and_then}
 use Rattle.std.specs.declared.alloc.Global.{Global}
 use Rattle.capi.specs.Answer.{Asked}

@@ -1,7 +1,7 @@
 use Rattle.std.proofs.Common.{ap, of_z, subst, sym, to_z, w64, ℤ, ◌∙◌, ◌≡◌}
 use Rattle.std.proofs.lemmas.Int.{to_z-of_z}
-use Rattle.std.specs.Prelude.{Some, false, neg_ℤ, pos}
-use Rattle.capi.proofs.HoldingLemmas.{ends_empty, ends_own, ends_shared, updating_own, updating_stays}
+use Rattle.std.specs.Prelude.{Some, neg_ℤ, pos}
+use Rattle.capi.proofs.HoldingLemmas.{ends_own, ends_shared, updating_own, updating_stays}
 use Rattle.capi.specs.Holding.{EndsAlone, zone_in}
 use Rattle.capi.specs.ZoneHandle.{IsUpdated, IsUpdating, parts_in}
 use Rattle.capi.proofs.zone_handle.update_held.Goals as goal

@@ -1,4 +1,5 @@
-use Rattle.op_use.proofs.OutcomeSteps.{gathered_first, gathered_last, step_ahead, step_names, step_new, step_next, step_smaller}
+use Rattle.op_use.proofs.OutcomeSteps.{gathered_first, gathered_last, step_ahead, step_names, step_new, step_next}
+use Rattle.op_use.proofs.OutcomeSteps.{step_smaller}
 use Rattle.op_use.proofs.OwnerRuns.{ascending}
 use Rattle.op_use.proofs.WalkSteps.{IsAhead, ahead_at_first, begins}
 use Rattle.op_use.proofs.apply.zone.Zone.outcome.Goals as goal

@@ -9,7 +9,8 @@ returns-in_default c =
     let key = c.args.key.now in
     let walk = c.args.walk.now in
     let here : IsAt m key walk = elim c.in_default.branch [
-      | in_default-via-in-Some+else-is_lt w ↦ subst (IsAt m key) (sym w.in-Some.ensures.steps ∙ c.in_ok-clone.ensures.cases)
+      | in_default-via-in-Some+else-is_lt w ↦ subst (IsAt m key)
+          (sym w.in-Some.ensures.steps ∙ c.in_ok-clone.ensures.cases)
           (not_before key w.in-Some.first.now (search rules))
       | in_default-via-in_default w ↦ subst (IsAt m key)
           (sym w.in_default.ensures.steps.0 ∙ c.in_ok-clone.ensures.cases) tt

@@ -1,7 +1,8 @@
 use Rattle.base.specs.RrKey.{key_cmp}
 use Rattle.base_data.specs.declared.rdata.RData.{RData}
 use Rattle.op_use.proofs.KeySets.{one_lent}
-use Rattle.op_use.proofs.SettleSteps.{IsSettling, settled_all, settling_added, settling_none, settling_replaced, settling_same}
+use Rattle.op_use.proofs.SettleSteps.{IsSettling, settled_all, settling_added, settling_none, settling_replaced}
+use Rattle.op_use.proofs.SettleSteps.{settling_same}
 use Rattle.op_use.proofs.apply.zone.Zone.settle.Goals as goal
 use Rattle.op_use.specs.HeldZone.{HeldZone}
 use Rattle.op_use.specs.Outcome.{Settles, each}
@@ -57,7 +58,8 @@ returns-then-is_empty c =
     let es = c.args.entries.now in
     let i = c.loop-entry.entry-index in
     let none = nil_from_length c.loop-entry.now.entries (c.is_empty.ensures.0 c.if-is_empty.true) in
-    subst (λ (rs : List (Record RData)). Settles rs c.args.self.now.sets c.args.now c.args.outcome.now c.loop-entry.outcome)
+    subst (λ (rs : List (Record RData)). Settles rs c.args.self.now.sets c.args.now c.args.outcome.now
+    c.loop-entry.outcome)
     (sym (map-append (λ (r : Bor (Record RData)). r.now) (take i es) (drop i es)) ∙ ap each (take-append-drop i es))
     (settled_all (each (take i es)) (each (drop i es)) c.args.self.now.sets c.args.now c.loop-entry.now
     c.args.outcome.now c.loop-entry.outcome none c.loop-entry.invariant)
