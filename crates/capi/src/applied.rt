@@ -57,7 +57,7 @@ fn apply(alloc: Global, update: &[u8], origin: &[u8], text: &[u8]) -> Result<Vec
     if !fits_wire(&sets) {
         return Err(Refusal::NOT_ON_WIRE);
     }
-    let (code, changed) = sets_after(alloc, &message, &zone, &sets)?;
+    let (code, changed) = sets_after(alloc, &message, &zone, sets)?;
     if has_two_anames(&changed) {
         return Err(Refusal::TWO_ANAMES);
     }

@@ -57,5 +57,5 @@ pub fn apply(
         result }
 {
     let (name, sets) = zone_of_bytes(alloc, origin, text)?;
-    Ok(lines_after(alloc, message, &name, &sets)?)
+    Ok(lines_after(alloc, message, &name, sets)?)
 }

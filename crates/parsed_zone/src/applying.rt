@@ -17,7 +17,7 @@ use crate::refusal::ZoneRefusal;
 use crate::zone_text::zone_lines;
 use base::{DNSClass, Name, RrKey};
 use op::{Message, ResponseCode};
-use op_use::apply_update;
+use op_use::update_in_place;
 use rr::RecordSet;
 use std::alloc::{AllocError, Global};
 use std::collections::BTreeMap;
@@ -34,20 +34,21 @@ pub fn sets_after(
     alloc: Global,
     message: &Message,
     name: &Name,
-    sets: &BTreeMap<RrKey, RecordSet>,
+    sets: BTreeMap<RrKey, RecordSet>,
 ) -> Result<(ResponseCode, BTreeMap<RrKey, RecordSet>), ZoneRefusal>
-    requires { MayBeUpdated sets.now }
+    requires { MayBeUpdated sets }
     ensures applied { IfOk result (λ r. IsApplied name.now DNSClass.IN
-        (sections_of (message_value message.now)) sets.now r.0 r.1) }
-    ensures all { IfOk result (λ _. are_sets_in sets.now.entries ≡ true) }
+        (sections_of (message_value message.now)) sets r.0 r.1) }
+    ensures all { IfOk result (λ _. are_sets_in sets.entries ≡ true) }
     ensures refused { IfErr result (λ e. (e ≡ ZoneRefusal.Memory)
-        ⊎ ((e ≡ ZoneRefusal.Class) × (are_sets_in sets.now.entries ≡ false))) }
+        ⊎ ((e ≡ ZoneRefusal.Class) × (are_sets_in sets.entries ≡ false))) }
 {
-    if !are_sets_in(sets) {
+    if !are_sets_in(&sets) {
         return Err(ZoneRefusal::Class);
     }
-    match apply_update(alloc, sets, name, DNSClass::IN, message) {
-        Ok(after) => Ok(after),
+    let mut sets = sets;
+    match update_in_place(alloc, &mut sets, name, DNSClass::IN, message) {
+        Ok(code) => Ok((code, sets)),
         // An update is refused for memory alone.
         Err(_) => Err(ZoneRefusal::Memory),
     }
@@ -65,11 +66,11 @@ pub fn lines_after(
     alloc: Global,
     message: &Message,
     name: &Name,
-    sets: &BTreeMap<RrKey, RecordSet>,
+    sets: BTreeMap<RrKey, RecordSet>,
 ) -> Result<String, ZoneRefusal>
-    requires { MayBeUpdated sets.now }
+    requires { MayBeUpdated sets }
     ensures { MakesOrRefuses string_bytes
-        (lines_after (sections_of (message_value message.now)) (name.now, sets.now.entries))
+        (lines_after (sections_of (message_value message.now)) (name.now, sets.entries))
         result }
 {
     let (code, changed) = sets_after(alloc, message, name, sets)?;
