@@ -59,12 +59,12 @@ enum fuzsbanel_refusal {
     FUZSBANEL_BAD_TEXT = 23,          /* zone text: items that are no data, name or TTL */
     FUZSBANEL_NOT_UTF8 = 24,          /* a text that isn't UTF-8 */
     FUZSBANEL_CLASS = 25,             /* a record that isn't of the class IN */
-    FUZSBANEL_NO_ORIGIN = 26,         /* an origin of no bytes, where a zone has to be named */
+    FUZSBANEL_NO_ORIGIN = 26,         /* an empty origin, where a zone has to be named, or an empty name */
     FUZSBANEL_NOT_ONE_SET = 27,       /* the text of a set without a record, or with several owners or types */
     FUZSBANEL_OUTSIDE = 28,           /* an owner outside the zone */
     FUZSBANEL_TYPE = 29,              /* a type that no update here is of: SOA, query and meta types, SIG, WKS, 0 */
     FUZSBANEL_NOT_SOA = 30,           /* a record that isn't the zone's SOA */
-    FUZSBANEL_NOT_ON_WIRE = 31,       /* what no message says: a relative name in data, an OPT record, a code without bits */
+    FUZSBANEL_NOT_ON_WIRE = 31,       /* what no message says: a relative name in data, OPT, a code without bits */
     FUZSBANEL_TOO_LONG = 32,          /* an update, question or record that no message of 65,535 bytes holds */
     FUZSBANEL_TWO_ANAMES = 33,        /* an update that leaves an owner two ANAME records, which no zone text says */
     FUZSBANEL_CLOSED = 34,            /* a zone handle that isn't open */
@@ -312,11 +312,11 @@ struct fuzsbanel_fault {
 
 /* Says where the text of a zone is refused, and for what, as a zone checker does; answers 0 where it isn't. The texts
  * that may be included stand in `bytes` one after the other, each after its name, and `included` says how long they
- * are; of texts of one name the last stands. Of a fault in a text, the place of the first token that makes it is filled
- * in; `name` gets the name of the included text that it stands in, and `words` the reason, as `invalid data for type
- * A`, each cut where it has no room: `*fault` says how long they are. Of any other answer both stay, and `*fault` is 0
- * throughout. Refuses with 17 to 24. 20 has the words `no text named NAME to include`, so a caller may read that text,
- * and ask again. */
+ * are, and no byte after `bytes_len` is read; of texts of one name the last stands. Of a fault in a text, the place of
+ * the first token that makes it is filled in, of data that is none of its type that of the type; `name` gets the name
+ * of the included text that it stands in, and `words` the reason, as `invalid data for type A`, each cut where it has
+ * no room: `*fault` says how long they are. Of any other answer both stay, and `*fault` is 0 throughout. Refuses with
+ * 17 to 24. 20 has the words `no text named NAME to include`, so a caller may read that text, and ask again. */
 int64_t fuzsbanel_zone_check(const uint8_t *origin, size_t origin_len, const uint8_t *text, size_t text_len,
                              const struct fuzsbanel_included *included, size_t included_len, const uint8_t *bytes,
                              size_t bytes_len, uint8_t *name, size_t name_cap, uint8_t *words, size_t words_cap,
@@ -355,10 +355,11 @@ int64_t fuzsbanel_zone_open(const uint8_t *origin, size_t origin_len, const uint
 
 /* Carries out an update message in the zone, and answers the code of RFC 2136, 2.2: 0 is NoError, and the update is
  * carried out (RFC 2136, 3). With any other code, and where it refuses, each record stays as it was. `*is_changed` is
- * set: to true exactly where some set is another than before, in any field, so that an update that adds what is there,
- * or undoes what it does, changes nothing. What it costs depends on what the update names, and not on the zone's size.
- * Whether the message is an update, whoever sent it, is the caller's to ask, and so is the SOA's serial, which stays: a
- * server raises it where the zone is changed (RFC 2136, 3.6). Refuses with 34, and as fuzsbanel_check does. */
+ * set by every answer, a refusal too: to true exactly where some set is another than before, in any field, so that an
+ * update that adds what is there, or undoes what it does, changes nothing. What it costs depends on what the update
+ * names, and not on the zone's size. Whether the message is an update, whoever sent it, is the caller's to ask, and so
+ * is the SOA's serial, which stays: a server raises it where the zone is changed (RFC 2136, 3.6). Refuses with 34, and
+ * as fuzsbanel_check does. */
 int64_t fuzsbanel_zone_update(struct fuzsbanel_zone_handle *handle, const uint8_t *update, size_t update_len,
                               bool *is_changed);
 
@@ -402,9 +403,9 @@ int64_t fuzsbanel_zone_serve_transfer(struct fuzsbanel_zone_handle *handle, cons
 
 /* Opens `other` at the zone that `handle` holds, and answers 0: both hold it then, and no record is copied; what
  * `other` held before is freed. Each may go to a thread of its own, and one thread reads by one while another reads or
- * changes by the other. A handle that changes a zone which another holds too copies it first, and the other keeps it as
- * it was: so an update then costs what the zone's size does, and the next one what it names. Refuses with 34; `other`
- * then holds what it held. */
+ * changes by the other. Any update, and raising the serial, of a zone that another handle holds too copies it first,
+ * also an update that is refused or changes nothing, and the other keeps it as it was: it then costs what the zone's
+ * size does, and the next one what it names. Refuses with 34; `other` then holds what it held. */
 int64_t fuzsbanel_zone_share(struct fuzsbanel_zone_handle *handle, struct fuzsbanel_zone_handle *other);
 
 /* Closes the handle, and frees what it held. A closed handle stays closed. */
@@ -421,7 +422,8 @@ void fuzsbanel_zone_close(struct fuzsbanel_zone_handle *handle);
 int64_t fuzsbanel_create(uint16_t id, const uint8_t *origin, size_t origin_len, const uint8_t *set, size_t set_len,
                          bool use_edns, uint8_t *out, size_t cap, size_t *needed);
 
-/* Adds records to a set; with `must_exist`, if the zone has one of that owner and type (2.4.1). */
+/* Adds records to a set, which is made where there is none; with `must_exist`, if the zone has one of that owner and
+ * type (2.4.1). */
 int64_t fuzsbanel_append(uint16_t id, const uint8_t *origin, size_t origin_len, const uint8_t *set, size_t set_len,
                          bool must_exist, bool use_edns, uint8_t *out, size_t cap, size_t *needed);
 

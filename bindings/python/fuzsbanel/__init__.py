@@ -109,7 +109,7 @@ __test__ = {
     >>> zone("", "b. 5 NS x\\n$ORIGIN a.")
     Traceback (most recent call last):
     ...
-    fuzsbanel.Refusal: 31: a name in data that is relative, which no message can have
+    fuzsbanel.Refusal: 31: what no message says: a relative name in data, an OPT record, a code without bits
     >>> zone_transfer(7, "example.").hex()
     '000700000001000000000001076578616d706c650000fc000100002904d0000000000000'
     """,

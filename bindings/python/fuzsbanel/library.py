@@ -16,10 +16,10 @@ def loaded(path: str) -> ctypes.CDLL:
     >>> loaded("/nowhere.so")
     Traceback (most recent call last):
     ...
-    ImportError: no /nowhere.so: run `rt lib` in crates/capi and then `make -C bindings/c`, or name it by FUZSBANEL_LIB
+    ImportError: no /nowhere.so: run `rt lib` in crates/capi and `make -C bindings/c`, or name another by FUZSBANEL_LIB
     """
     if not os.path.exists(path):
-        raise ImportError(f"no {path}: run `rt lib` in crates/capi and then `make -C bindings/c`, or name it by FUZSBANEL_LIB")
+        raise ImportError(f"no {path}: run `rt lib` in crates/capi and `make -C bindings/c`, or name another by FUZSBANEL_LIB")
     return ctypes.CDLL(path)
 
 
@@ -129,7 +129,8 @@ def number(value: int, type_: type) -> int:
     return value
 
 
-BYTES = [ctypes.c_char_p, ctypes.c_size_t]
+# a text and bytes cross as a pointer and a length; the types of the others are those of C
+TEXT, BYTES, ROOM = [str, ctypes.c_size_t], [bytes, ctypes.c_size_t], [ctypes.c_char_p, ctypes.c_size_t]
 OUT = [ctypes.c_char_p, ctypes.c_size_t, ctypes.POINTER(ctypes.c_size_t)]
 U16, EDNS, PLACE = [ctypes.c_uint16], [ctypes.c_bool], [ctypes.c_size_t]
 HANDLE = [ctypes.POINTER(ZoneHandle)]
@@ -140,64 +141,76 @@ CALLS = {
     "text": BYTES + OUT,
     "header": BYTES + [ctypes.POINTER(HeaderFields)],
     "response": BYTES + [ctypes.POINTER(ResponseFields)],
-    "build_query": U16 + BYTES + U16 + U16 + [ctypes.c_bool] + U16 + OUT,
-    "build_notify": U16 + BYTES + OUT,
-    "build_response": BYTES + U16 + [ctypes.c_bool] * 2 + BYTES * 3 + U16 + [ctypes.c_bool] + OUT,
-    "type_number": BYTES,
+    "build_query": U16 + TEXT + U16 + U16 + [ctypes.c_bool] + U16 + OUT,
+    "build_notify": U16 + TEXT + OUT,
+    "build_response": BYTES + U16 + [ctypes.c_bool] * 2 + TEXT * 3 + U16 + [ctypes.c_bool] + OUT,
+    "type_number": TEXT,
     "type_text": U16 + OUT,
-    "class_number": BYTES,
+    "class_number": TEXT,
     "class_text": U16 + OUT,
-    "code_number": BYTES,
+    "code_number": TEXT,
     "code_text": U16 + OUT,
     "query": BYTES + PLACE + [ctypes.POINTER(QueryFields)],
     "record": BYTES + PLACE + [ctypes.POINTER(RecordFields)],
     "option": BYTES + PLACE + [ctypes.POINTER(OptionFields)],
     "name": BYTES + PLACE + OUT,
     "data_text": BYTES + PLACE + OUT,
-    "name_wire": BYTES + OUT,
-    "data_wire": U16 + BYTES + OUT,
+    "name_wire": TEXT + OUT,
+    "data_wire": U16 + TEXT + OUT,
     "wire_text": U16 + BYTES + OUT,
-    "walk": BYTES + [ctypes.POINTER(ItemFields)] + PLACE + BYTES + [ctypes.POINTER(Room)],
-    "zone": BYTES + BYTES + OUT,
-    "zone_check": BYTES + BYTES + INCLUDED + BYTES * 2 + [ctypes.POINTER(FaultFields)],
-    "apply": BYTES + BYTES + BYTES + OUT,
-    "zone_open": BYTES + BYTES + INCLUDED + HANDLE,
+    "walk": BYTES + [ctypes.POINTER(ItemFields)] + PLACE + ROOM + [ctypes.POINTER(Room)],
+    "zone": TEXT + TEXT + OUT,
+    "zone_check": TEXT + TEXT + INCLUDED + ROOM * 2 + [ctypes.POINTER(FaultFields)],
+    "apply": BYTES + TEXT + TEXT + OUT,
+    "zone_open": TEXT + TEXT + INCLUDED + HANDLE,
     "zone_update": HANDLE + BYTES + [ctypes.POINTER(ctypes.c_bool)],
     "zone_text": HANDLE + OUT,
     "zone_answer": HANDLE + BYTES + U16 + [ctypes.c_bool] + OUT,
     "zone_raise_serial": HANDLE,
     "zone_share": HANDLE * 2,
     "zone_serve_transfer": HANDLE + BYTES + [ctypes.POINTER(TransferPlace)] + OUT,
-    "create": U16 + BYTES + BYTES + EDNS + OUT,
-    "append": U16 + BYTES + BYTES + [ctypes.c_bool] + EDNS + OUT,
-    "compare_and_swap": U16 + BYTES + BYTES + BYTES + EDNS + OUT,
-    "delete_by_rdata": U16 + BYTES + BYTES + EDNS + OUT,
-    "delete_rrset": U16 + BYTES + BYTES + U16 + EDNS + OUT,
-    "delete_all": U16 + BYTES + BYTES + EDNS + OUT,
-    "zone_transfer": U16 + BYTES + BYTES + OUT,
+    "create": U16 + TEXT + TEXT + EDNS + OUT,
+    "append": U16 + TEXT + TEXT + [ctypes.c_bool] + EDNS + OUT,
+    "compare_and_swap": U16 + TEXT + TEXT + TEXT + EDNS + OUT,
+    "delete_by_rdata": U16 + TEXT + TEXT + EDNS + OUT,
+    "delete_rrset": U16 + TEXT + TEXT + U16 + EDNS + OUT,
+    "delete_all": U16 + TEXT + TEXT + EDNS + OUT,
+    "zone_transfer": U16 + TEXT + TEXT + OUT,
 }
 for word, types in CALLS.items():
     call = getattr(LIBRARY, "fuzsbanel_" + word)
-    call.argtypes, call.restype = types, ctypes.c_int64
+    call.argtypes = [ctypes.c_char_p if type_ in (str, bytes) else type_ for type_ in types]
+    call.restype = ctypes.c_int64
 LIBRARY.fuzsbanel_zone_close.argtypes, LIBRARY.fuzsbanel_zone_close.restype = HANDLE, None
 LIBRARY.fuzsbanel_version.argtypes, LIBRARY.fuzsbanel_version.restype = [], ctypes.c_uint32
 
 
 def asked(word, *arguments) -> int:
-    """The length or the place that a call answers; bytes and texts cross as a pointer and a length.
+    """The length or the place that a call answers.
 
     >>> check(memoryview(bytes.fromhex("00010100000100000000000001610000010001") + b"!").cast("H"))
     19
+    >>> check("0001")
+    Traceback (most recent call last):
+    ...
+    TypeError: fuzsbanel_check takes bytes, and not '0001'
+    >>> build_query(1, b"www.example", 1)
+    Traceback (most recent call last):
+    ...
+    TypeError: fuzsbanel_build_query takes a str, and not b'www.example'
     """
     crossing = []
     for argument in arguments:
-        if isinstance(argument, str):
+        wanted = CALLS[word][len(crossing)]
+        if wanted is str:
+            if not isinstance(argument, str):
+                raise TypeError(f"fuzsbanel_{word} takes a str, and not {argument!r:.60}")
             argument = argument.encode()
-        if isinstance(argument, (bytes, bytearray, memoryview)):
-            held = bytes(argument)
-            crossing += [held, len(held)]
-        else:
-            crossing.append(argument)
+        elif wanted is bytes:
+            if not isinstance(argument, (bytes, bytearray, memoryview)):
+                raise TypeError(f"fuzsbanel_{word} takes bytes, and not {argument!r:.60}")
+            argument = bytes(argument)
+        crossing += [argument, len(argument)] if wanted in (str, bytes) else [argument]
     for value, type_ in zip(crossing, CALLS[word]):
         if type_ in (ctypes.c_uint16, ctypes.c_size_t):
             number(value, type_)

@@ -34,7 +34,7 @@ def zone(origin: str, zone_text: str) -> str:
 
 def crossing(included: Mapping[str, str]) -> list:
     """Texts that may be included, by their names, as they are handed over."""
-    pieces = [(name_.encode(), text_.encode()) for name_, text_ in included.items()]
+    pieces = [(str.encode(name_), str.encode(text_)) for name_, text_ in included.items()]
     lengths = (IncludedFields * len(pieces))(*((len(name_), len(text_)) for name_, text_ in pieces))
     return [lengths, len(pieces), b"".join(name_ + text_ for name_, text_ in pieces)]
 
@@ -109,7 +109,7 @@ class Zone:
     >>> Zone("", www)
     Traceback (most recent call last):
     ...
-    fuzsbanel.Refusal: 26: an origin of no bytes, where a zone has to be named
+    fuzsbanel.Refusal: 26: an empty origin or name
     """
 
     def __init__(self, origin: str, zone_text: str, included: Mapping[str, str] = MappingProxyType({})) -> None:
@@ -133,7 +133,7 @@ class Zone:
 
     def raise_serial(self) -> int:
         """Raises the SOA's serial by one, modulo 2^32, as a server does after an update (RFC 1982, 3.1; RFC 2136, 3.6), and
-        answers the new one. It takes no memory of the library's."""
+        answers the new one. It takes no memory of the library's but where the zone is shared, which is copied then."""
         with self._lock:
             return asked("zone_raise_serial", ctypes.byref(self._handle))
 
@@ -175,4 +175,5 @@ class Zone:
         self.close()
 
     def __del__(self) -> None:
-        self.close()
+        if "_handle" in vars(self):  # else it was never begun
+            self.close()
