@@ -4,12 +4,13 @@ import shutil
 import sys
 from concurrent.futures import ThreadPoolExecutor
 
+import dearest
 import messages
 import updates
 import zones
 from counting import instructions, most_bytes, of_one, seconds
 
-PARTS = ["text", "messages", "updates", "checkers"]
+PARTS = ["text", "messages", "updates", "dearest", "checkers"]
 GOAL = 2.3
 
 # each shape of message: its name, the size of the smaller one in bytes, and the message of a size
@@ -43,6 +44,8 @@ SIDE_BY_SIDE = [
     ("100,000 owners at random", 100_000, zones.at_random),
 ]
 RUNS = 7
+# how many of the dearest messages are shown
+SHOWN = 8
 
 
 def line(shape, sizes, counts, memory=None):
@@ -136,7 +139,7 @@ def side_by_side(program, parser, folder):
 def measure(program, loop, parser, folder, parts):
     """Prints these parts; answers 1 where a shape passes the goal."""
     right = True
-    if set(parts) - {"checkers"}:
+    if set(parts) - {"dearest", "checkers"}:
         print("| Shape | Bytes | Instructions | Of twice as much | Ratio | Bytes had for each byte |")
         print("|---|---|---|---|---|---|", flush=True)
     if "text" in parts:
@@ -145,6 +148,8 @@ def measure(program, loop, parser, folder, parts):
         right = measure_messages(loop) and right
     if "updates" in parts:
         right = measure_updates(program) and right
+    if "dearest" in parts:
+        right = dearest.measure(each, of_one, loop, SHOWN) and right
     if "checkers" in parts:
         side_by_side(program, parser, folder)
     return 0 if right else 1

@@ -32,6 +32,10 @@ class Message:
     >>> [found] = message.answers
     >>> message.owner(found), found.ttl, message.data(found)
     ('example.', 300, MX(preference=10, exchange='mail.example.'))
+    >>> message.data(found._replace(ttl=0))
+    Traceback (most recent call last):
+    ...
+    ValueError: the record is of another message
     >>> message.edns
     Edns(payload=1232, version=0, dnssec_ok=True, options=(EdnsOption(code=3, data=b'ab'),))
     >>> message.cut(512) == message.wire, message.response().max_payload
@@ -51,6 +55,7 @@ class Message:
         records = [item for item in items if isinstance(item, Record)]
         self.answers, self.authorities, self.additionals = (
             tuple(item for item in records if item.section == section) for section in (1, 2, 3))
+        self._at = {record.name: record for record in records}
 
     def owner(self, item: Union[Query, Record]) -> str:
         """The text of the name of a question or a record."""
@@ -58,7 +63,9 @@ class Message:
 
     def data(self, record: Record) -> Data:
         """The data of one of the records, with the fields of its type. It reads the record again, and follows the pointers
-        of its names, which a hostile message makes slow."""
+        of its names, which a hostile message makes slow. A record of another message is a ValueError."""
+        if self._at.get(record.name) != record:
+            raise ValueError("the record is of another message")
         if record.data and has_fields(record.record_type):
             return of_text(record.record_type, data_text(self.wire, record.name))
         return of_octets(record.record_type, record.data)
