@@ -347,8 +347,8 @@ struct fuzsbanel_zone_handle {
 
 /* Opens the handle at the zone `origin`, whose records are those of the text, and answers 0; what the handle held
  * before is freed. An `$ORIGIN` of the text says how its names end, and never which zone it is. The texts that it may
- * include are handed in as to fuzsbanel_zone_check. Refuses as fuzsbanel_zone does, with 26, and with 25 for a zone of
- * another class than IN; the handle then holds what it held. */
+ * include are handed in as to fuzsbanel_zone_check, which says of the same bytes where a text is refused. Refuses as
+ * fuzsbanel_zone does, with 26, and with 25 for a zone of another class than IN; the handle then holds what it held. */
 int64_t fuzsbanel_zone_open(const uint8_t *origin, size_t origin_len, const uint8_t *text, size_t text_len,
                             const struct fuzsbanel_included *included, size_t included_len, const uint8_t *bytes,
                             size_t bytes_len, struct fuzsbanel_zone_handle *handle);

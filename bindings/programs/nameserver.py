@@ -109,7 +109,7 @@ def opened(path: str, origin: str) -> Tuple[fuzsbanel.Zone, List[str]]:
         try:
             return fuzsbanel.Zone(origin, text, included), [text[:-1], *(piece for it in included.items() for piece in it)]
         except fuzsbanel.Refusal as why:
-            fault = fuzsbanel.zone_check(origin, text, included)
+            fault = why.fault
             told = f"{fault.name or path}: line {fault.line}, column {fault.column}: {fault.words}" if fault else f"{path}: {why}"
             if not fault or fault.number != NO_INCLUDE:
                 raise Stop(told) from why

@@ -40,7 +40,8 @@ NAMES = {
 
 
 class Refusal(Exception):
-    """A call has no answer: `number` is that of docs/REFUSALS.md.
+    """A call has no answer: `number` is that of docs/REFUSALS.md, and `fault` where the text stands that a Zone was to be
+    opened at, if it has one.
 
     >>> import pickle
     >>> pickle.loads(pickle.dumps(Refusal(19)))
@@ -55,6 +56,7 @@ class Refusal(Exception):
     def __init__(self, number: int) -> None:
         super().__init__(number)
         self.number = number
+        self.fault = None
 
     def __str__(self) -> str:
         return f"{self.number}: {NAMES.get(self.number, 'refused')}"

@@ -1,6 +1,7 @@
 """Zone text, and zones that are held."""
 import ctypes
 import threading
+from contextlib import suppress
 from types import MappingProxyType
 from typing import Iterator, Mapping, NamedTuple, Optional
 
@@ -74,7 +75,8 @@ def apply(update: bytes, origin: str, zone_text: str) -> str:
 
 class Zone:
     """A zone that is held: opened at a text and those that it includes, by their names, updated where it is, written as text,
-    and closed. Threads may share one; its calls come one after the other.
+    and closed. Threads may share one; its calls come one after the other. A text that is refused raises a Refusal with its
+    `fault`.
 
     >>> www = "www 300 A 192.0.2.2"
     >>> with Zone("example.", "@ 300 SOA ns hostmaster 1 2 3 4 5") as held:
@@ -110,11 +112,21 @@ class Zone:
     Traceback (most recent call last):
     ...
     fuzsbanel.Refusal: 26: an empty origin or name
+    >>> try:
+    ...     Zone("example.", "$INCLUDE hosts\\n", {"hosts": "www 300 A 192.0.2"})
+    ... except Refusal as refusal:
+    ...     refusal.fault
+    Fault(number=23, name='hosts', line=1, column=9, words='invalid data for type A')
     """
 
     def __init__(self, origin: str, zone_text: str, included: Mapping[str, str] = MappingProxyType({})) -> None:
         self._handle, self._lock = ZoneHandle(), threading.Lock()
-        asked("zone_open", origin, zone_text, *crossing(included), ctypes.byref(self._handle))
+        try:
+            asked("zone_open", origin, zone_text, *crossing(included), ctypes.byref(self._handle))
+        except Refusal as refusal:
+            with suppress(Refusal):
+                refusal.fault = zone_check(origin, zone_text, included)
+            raise
 
     def update(self, update: bytes) -> Applied:
         """Carries out an update message, and answers the server's code and whether anything changed: with 0, NoError, the update

@@ -64,8 +64,9 @@ impl Zone {
     ///
     /// # Errors
     ///
-    /// The text's first fault; [`Error::NoOrigin`] for an empty origin, [`Error::NotOnWire`] for a relative name in data,
-    /// and [`Error::Class`] for a zone of another class than IN.
+    /// The text's first fault, of which [`zone_check`](crate::zone_check) says where it stands; [`Error::NoOrigin`] for an
+    /// empty origin, [`Error::NotOnWire`] for a relative name in data, and [`Error::Class`] for a zone of another class
+    /// than IN.
     pub fn open(origin: &str, text: &str, included: &[(&str, &str)]) -> Result<Zone, Error> {
         let mut handle = closed();
         let (lengths, bytes) = calls::crossing(included);
