@@ -6,7 +6,7 @@ use Rattle.authority.specs.Lookup.{alias_at, alias_in, first_target}
 use Rattle.base.specs.names.Labels.{NameValue}
 use Rattle.op_use.specs.Applying.{zone_of_map}
 use Rattle.rr.specs.RecordSet.{SetValue}
-use Rattle.std.proofs.Common.{Bor, Option, ap, subst, sym, ◌∙◌}
+use Rattle.std.proofs.Common.{Bor, Option, ap, rules, subst, sym, ◌∙◌}
 use Rattle.std.specs.Option.{option_copied}
 
 pub returns-in_err-set : goal.returns-in_err-set
@@ -49,3 +49,6 @@ returns c = record {
         led.1,
       );
 }
+
+pub returns-then-eq : goal.returns-then-eq
+returns-then-eq c = search rules

@@ -27,3 +27,6 @@ returns c =
           (λ e. (e ≡ refusals.Memory) ⊎ (bytes_of limit m ≡ Err e))
           (λ e. ⊎_elim inl (λ is. inr (less ∙ is))) c.to_vec_within-2.ensures.refusal;
     }
+
+pub returns-then-not-is_cut-clause-bytes : goal.returns-then-not-is_cut-clause-bytes
+returns-then-not-is_cut-clause-bytes c = search rules

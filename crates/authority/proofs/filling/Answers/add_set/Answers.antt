@@ -7,7 +7,8 @@ use Rattle.base.specs.names.Labels.{NameValue}
 use Rattle.base_data.specs.declared.rdata.RData.{RData}
 use Rattle.op_use.specs.NamedChanges.{datum_of}
 use Rattle.rr.specs.declared.record.Record.{Record}
-use Rattle.std.proofs.Common.{Bool, ap, subst, sym, true, ◌∙◌, ◌≡◌}
+use Rattle.std.proofs.Common.{Bool, ap, arith, subst, sym, true, ◌∙◌, ◌≡◌}
+use Rattle.std.proofs.lemmas.Grind.{common_steps}
 
 pub loop-i-preserved : goal.loop-i-preserved
 loop-i-preserved c =
@@ -23,3 +24,6 @@ loop-i-preserved c =
     set_adds c.args.class owner ttl c.as_slice-entries.result.now c.loop-i.i r c.loop-i-test.true c.index-entries-i.is
     (records_from c.args.class c.args.from c.args.set.now) c.args.self.now c.loop-i.self c.loop-i.invariant
     (sym c.is_update.ensures ∙ c.if-is_update.false) c.add.new.self added
+
+pub returns-then-not-branch : goal.returns-then-not-branch
+returns-then-not-branch c = grind (arith, common_steps)
