@@ -1,6 +1,6 @@
 use Rattle.base.proofs.reading.NameLemmas.{Looks, looks_left}
 use Rattle.base.specs.names.Labels.{IsWire}
-use Rattle.base.proofs.name.Name.read_in_place.Given as goal
+use Rattle.base.proofs.name.Name.read_labels.Given as goal
 
 abbrev pub invariant-look : goal.invariant-look
 invariant-look l = record {

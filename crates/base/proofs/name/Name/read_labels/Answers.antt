@@ -4,6 +4,7 @@ use Rattle.std.specs.Prelude.{is_some}
 use Rattle.std.proofs.lemmas.List.{append-nil}
 use Rattle.std.proofs.lemmas.Result.{err_from_is_err_and}
 use Rattle.base.specs.reading.Pieces.{ending_of}
+use Rattle.base.specs.reading.NameFault.{fault_of}
 use Rattle.base.specs.reading.Names.{labels_at, name_at}
 use Rattle.base.specs.reading.Pointers.{AreTooLong, Fit, IsAdded}
 use Rattle.base.specs.reading.Reader.{Reader}
@@ -15,13 +16,13 @@ use Rattle.base.proofs.reading.PieceLemmas.{gathers_own, piece_fits, piece_refus
 use Rattle.base.proofs.reading.PieceLemmas.{reads_refused, reads_root}
 use Rattle.base.proofs.reading.PieceLemmas.{wire_next}
 use Rattle.base.proofs.reading.ReadingLemmas.{name_from, name_refused}
-use Rattle.base.proofs.name.Name.read_in_place.Goals as goal
+use Rattle.base.proofs.name.Name.read_labels.Goals as goal
 
 pub returns-in_err-piece-clause-read : goal.returns-in_err-piece-clause-read
 returns-in_err-piece-clause-read c =
     let old = c.args.decoder.now in
     let p = err_from_is_err_and c.from_residual.result c.from_residual.ensures.1 in
-    let e = c.in_err-piece.field-0.0 in
+    let e = fault_of c.in_err-piece.field-0.0 in
     let begun = gathers_none old.bytes old.index 0
     (omega (arith, c.index-start.ensures.inside, c.index-start.ensures.value)) (omega arith) in
     rw (p.1, p.2) (fails_is e _ (name_refused old.bytes old.index e
@@ -89,13 +90,13 @@ returns-in_err-kept-clause-read c =
     let at = c.index-start.ensures in
     let k = c.in_err-kept.ensures in
     let p = err_from_is_err_and c.from_residual-in_err-kept.result c.from_residual-in_err-kept.ensures.1 in
-    let e = c.in_err-kept.field-0.0 in
+    let e = fault_of c.in_err-kept.field-0.0 in
     let all : c.in_ok-piece.piece.len ≡ 0 + c.in_ok-piece.piece.len = omega arith in
     let nowhere = reads_nowhere old.bytes old.index (omega (arith, at.inside, at.value)) c.rest-own.ensures
     c.in_ok-piece.ensures.piece c.in-Some.is (λ below. subst (AreTooLong old.bytes c.in-Some.target) all
     (subst (λ (bs : List ℕ). AreTooLong bs c.in-Some.target c.in_ok-piece.piece.len) (looks_bytes c.look.invariant.looks)
     (k.refused (omega (arith, below, at.value))))) in
-    rw (p.1, p.2) (fails_is e _ (name_refused old.bytes old.index e (nowhere ∙ ap Err (sym k.err))))
+    rw (p.1, p.2) (fails_is e _ (name_refused old.bytes old.index e (nowhere ∙ ap (λ fault. Err (fault_of fault)) (sym k.err))))
 
 pub returns-in_err-kept-clause-tracks : goal.returns-in_err-kept-clause-tracks
 returns-in_err-kept-clause-tracks c =
@@ -201,7 +202,7 @@ returns-in_err-keep_target-clause-read c =
     let at = c.index-start.ensures in
     let t = c.in-Some.target in
     let len = c.in_ok-piece.piece.len in
-    let e = c.in_err-keep_target.field-0.0 in
+    let e = fault_of c.in_err-keep_target.field-0.0 in
     let all : len ≡ 0 + len = omega arith in
     let below : t < old.index = omega (arith, c.in_ok-kept.ensures.below, at.value) in
     let refused = reads_refused old.bytes old.index (omega (arith, at.inside, at.value)) c.rest-own.ensures
