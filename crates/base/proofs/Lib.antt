@@ -1,4 +1,3 @@
-pub mod CopyLemmas
 pub mod IndexedLemmas
 pub mod Refusing
 pub mod names

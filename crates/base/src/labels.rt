@@ -94,10 +94,21 @@ impl Labels {
                 return Ok(());
             }
         }
-        let bytes = if used == 0 {
+        self.set_on_heap(&bytes[..used], others)
+    }
+
+    /// Puts these bytes, and then others, in memory of their own in the place of those that there are. It isn't copied
+    /// into each reader of names, since few are so long.
+    #[inline(never)]
+    fn set_on_heap(&mut self, first: &[u8], others: &[u8]) -> Result<(), AllocError>
+        ensures ok { OnOk result (self.new
+            ≡ record self.old { items = first.now ++ others.now }) }
+        ensures err { OnErr result (self.new ≡ self.old) }
+    {
+        let bytes = if first.is_empty() {
             Vec::from_slice(self.allocator(), others)?
         } else {
-            on_heap(self.allocator(), &bytes[..used], others)?
+            on_heap(self.allocator(), first, others)?
         };
         let is_fqdn = self.is_fqdn();
         self.storage = Storage::Heap { is_fqdn, bytes };
@@ -173,8 +184,7 @@ impl Labels {
     }
 }
 
-/// Some bytes, then others, in memory of their own. It isn't copied into each reader of names, since few are so long.
-#[inline(never)]
+/// Some bytes, then others, in memory of their own.
 fn on_heap(alloc: Global, first: &[u8], others: &[u8]) -> Result<Vec<u8>, AllocError>
     ensures { IfOk result (λ bytes. bytes.items ≡ first.now ++ others.now) }
 {

@@ -136,7 +136,7 @@ fn copy_front(room: &mut [u8; INLINE_LABELS], slice: &[u8], used: usize)
     ensures { take used room.new ≡ take used slice.now }
 {
     if slice.len() >= INLINE_LABELS {
-        room.copy_from_slice(&slice[..INLINE_LABELS]);
+        copy_ends::<PIECE>(room, &slice[..INLINE_LABELS]);
     } else {
         room[..used].copy_from_slice(&slice[..used]);
     }
@@ -150,11 +150,11 @@ fn copy_few(place: &mut [u8], slice: &[u8])
     ensures { place.new ≡ slice.now }
 {
     if slice.len() >= PIECE {
-        copy_ends(place, slice, PIECE);
+        copy_ends::<PIECE>(place, slice);
     } else if slice.len() >= SHORT_PIECE {
-        copy_ends(place, slice, SHORT_PIECE);
+        copy_ends::<SHORT_PIECE>(place, slice);
     } else if slice.len() >= LEAST_PIECE {
-        copy_ends(place, slice, LEAST_PIECE);
+        copy_ends::<LEAST_PIECE>(place, slice);
     } else if !slice.is_empty() {
         place.copy_from_slice(slice);
     }
@@ -163,15 +163,22 @@ fn copy_few(place: &mut [u8], slice: &[u8])
 /// Copies a slice into a place of its length: its first piece and its last one, which may overlap. A fixed number of
 /// bytes is copied faster than any other.
 #[inline(always)]
-fn copy_ends(place: &mut [u8], slice: &[u8], piece: usize)
+fn copy_ends<const N: usize>(place: &mut [u8], slice: &[u8])
     requires fits { length place.old ≡ length slice.now }
     // The slice is no shorter than a piece.
-    requires long { piece ≤ length slice.now }
+    requires long { N ≤ length slice.now }
     // Two pieces cover it.
-    requires short { length slice.now ≤ piece + piece }
+    requires short { length slice.now ≤ N + N }
     ensures { place.new ≡ slice.now }
 {
-    let last = slice.len() - piece;
-    place[..piece].copy_from_slice(&slice[..piece]);
-    place[last..].copy_from_slice(&slice[last..]);
+    if let Some(front) = slice.first_chunk::<N>() {
+        if let Some(room) = place.first_chunk_mut::<N>() {
+            *room = *front;
+        }
+    }
+    if let Some(end) = slice.last_chunk::<N>() {
+        if let Some(room) = place.last_chunk_mut::<N>() {
+            *room = *end;
+        }
+    }
 }

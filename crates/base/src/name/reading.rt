@@ -4,6 +4,8 @@ ghost use Rattle.base.specs.declared.limits.TheConstants.{MAX_LABELS, POINTER_LI
 ghost use Rattle.std.specs.Prelude.{Some, ◌≡◌, ℕ, ◌<◌, ◌≤◌, ◌+◌, ◌++◌, ◌∷◌, [], Ok, Err, length, take, drop, IfErr, IfOk, IfSome, OnOk, OnErr, IsOkUnless, MatchResult, is_some, true};
 ghost use Rattle.std.specs.FinSet as set;
 ghost use Rattle.base.specs.names.Labels.{IsWire, labels_of};
+ghost use Rattle.base.specs.declared.name.reading.NameFault.TheVariants as reasons;
+ghost use Rattle.base.specs.reading.NameFault.{fault_of, told};
 ghost use Rattle.base.specs.reading.Names.{labels_at, name_at};
 ghost use Rattle.base.specs.reading.Pieces.{IsPiece, IsRefusedIn};
 ghost use Rattle.base.specs.reading.Pointers.{AreTooLong, Fit, IsAdded, IsKept, IsNewTarget};
@@ -17,6 +19,46 @@ use crate::labels::Labels;
 use crate::limits::{MAX_LABEL, MAX_LABELS, MAX_NAME, POINTER_BITS};
 use crate::name::Name;
 use crate::wire::{BinDecodable, BinDecoder};
+use std::alloc::{AllocError, AllocFailed};
+
+/// Why a name was not read. It is small, since a refusal takes room, and is cleared, in each call that might give it.
+#[derive(Clone, Copy, Drop)]
+pub(crate) enum NameFault {
+    /// Memory ran out.
+    Memory,
+    /// The bytes end inside a piece.
+    InsufficientBytes,
+    /// The name is spelled wrongly (RFC 1035, 4.1.4).
+    BadName,
+}
+
+impl From<AllocError> for NameFault {
+    ghost from_gives = { λ _ fault. fault ≡ reasons.Memory };
+
+    fn from(_e: AllocError) -> NameFault {
+        NameFault::Memory
+    }
+}
+
+impl<T: Drop> From<AllocFailed<T>> for NameFault {
+    ghost from_gives = { λ _ fault. fault ≡ reasons.Memory };
+
+    fn from(_e: AllocFailed<T>) -> NameFault {
+        NameFault::Memory
+    }
+}
+
+impl From<NameFault> for DecodeError {
+    ghost from_gives = { λ fault e. e ≡ fault_of fault };
+
+    fn from(fault: NameFault) -> DecodeError {
+        match fault {
+            NameFault::Memory => DecodeError::Memory,
+            NameFault::InsufficientBytes => DecodeError::InsufficientBytes,
+            NameFault::BadName => DecodeError::BadName,
+        }
+    }
+}
 
 /// A piece of a name: labels up to a zero byte or a pointer (RFC 1035, 4.1.4).
 #[derive(Clone, Copy)]
@@ -33,10 +75,10 @@ pub(crate) struct NamePiece {
 ///
 /// `InsufficientBytes` where the bytes end inside the piece; `BadName` where the top bits of a byte are 01 or 10, and
 /// where the name would have more than 255 bytes (RFC 1035, 2.3.4).
-fn read_piece(bytes: &[u8], before: usize) -> Result<NamePiece, DecodeError>
+fn read_piece(bytes: &[u8], before: usize) -> Result<NamePiece, NameFault>
     requires { before ≤ MAX_LABELS }
     ensures piece { MatchResult result (λ p. IsPiece bytes.now before p)
-        (λ e. IsRefusedIn bytes.now before e) }
+        (λ e. IsRefusedIn bytes.now before (fault_of e)) }
     // A pointer has 14 bits for its offset, which is therefore below 16,384.
     ensures near { IfOk result (λ p. IfSome p.pointer (λ t. t < POINTER_LIMIT)) }
 {
@@ -48,19 +90,19 @@ fn read_piece(bytes: &[u8], before: usize) -> Result<NamePiece, DecodeError>
     }
     if len >= near.len() {
         if len > bytes.len() || before + len < MAX_NAME {
-            return Err(DecodeError::InsufficientBytes);
+            return Err(NameFault::InsufficientBytes);
         }
-        return Err(DecodeError::BadName);
+        return Err(NameFault::BadName);
     }
     let first = near[len];
     if first == 0 {
         return Ok(NamePiece { len, pointer: None });
     }
     if first < POINTER_BITS {
-        return Err(DecodeError::BadName);
+        return Err(NameFault::BadName);
     }
     if len + 1 >= bytes.len() {
-        return Err(DecodeError::InsufficientBytes);
+        return Err(NameFault::InsufficientBytes);
     }
     let target = 256 * u16::from(first - POINTER_BITS) + u16::from(bytes[len + 1]);
     Ok(NamePiece {
@@ -81,7 +123,7 @@ fn kept_labels<'d>(
     target: u16,
     start: usize,
     used: usize,
-) -> Result<Option<&'d [u8]>, DecodeError>
+) -> Result<Option<&'d [u8]>, NameFault>
     requires { used ≤ MAX_LABELS }
     ensures below { IfOk result (λ _. target < start) }
     ensures is { IfOk result
@@ -90,7 +132,7 @@ fn kept_labels<'d>(
         IfSome found (λ labels. IsKept decoder.now.bytes target labels.now)) }
     ensures short { IfOk result (λ found.
         IfSome found (λ labels. used + length labels.now ≤ MAX_LABELS)) }
-    ensures err { IsOkUnless result DecodeError.BadName }
+    ensures err { IsOkUnless result NameFault.BadName }
     // A target below the start is refused only for the length of the labels there.
     ensures refused { IfErr result (λ _. target < start
         → AreTooLong decoder.now.bytes target used) }
@@ -101,13 +143,13 @@ fn kept_labels<'d>(
     ensures closed { OnOk result (IsClosed decoder.now.bytes decoder.now.kept) }
 {
     if usize::from(target) >= start {
-        return Err(DecodeError::BadName);
+        return Err(NameFault::BadName);
     }
     let Some(labels) = decoder.labels_at(target) else {
         return Ok(None);
     };
     if used + labels.len() > MAX_LABELS {
-        return Err(DecodeError::BadName);
+        return Err(NameFault::BadName);
     }
     Ok(Some(labels))
 }
@@ -119,11 +161,11 @@ fn kept_labels<'d>(
 ///
 /// What reading on from there refuses.
 #[inline(never)]
-fn keep_target(decoder: &mut BinDecoder<'_>, target: u16, used: usize) -> Result<(), DecodeError>
+fn keep_target(decoder: &mut BinDecoder<'_>, target: u16, used: usize) -> Result<(), NameFault>
     requires few { used ≤ MAX_LABELS }
     requires new { IsNewTarget decoder.old target }
     ensures read { MatchResult result (λ _. Fit decoder.old.bytes target used)
-        (λ e. Fails e (labels_at decoder.old.bytes target target used)) }
+        (λ e. Fails (fault_of e) (labels_at decoder.old.bytes target target used)) }
     ensures kept { OnOk result (IsAdded target decoder.old decoder.new) }
     ensures bounded { OnErr result (IsBounded decoder.old decoder.new) }
 {
@@ -166,9 +208,7 @@ impl BinDecodable for Name {
     /// `InsufficientBytes` where the buffer ends inside a piece of the name; `BadName` where the top bits of a byte are
     /// 01 or 10, where a pointer doesn't go below the start of its piece, and where the name would have more than 255
     /// bytes; `Memory` if memory runs out.
-    // Each caller has a copy of its own, since a name is moved in fewer instructions so.
     #[inline(always)]
-    #[tactic(auto, unfolding(crate::specs::reading::Names::name_at))]
     fn read(decoder: &mut BinDecoder<'_>) -> Result<Name, DecodeError>
         ensures read { Reads (λ x. x) decoder.old decoder.new result
             (name_at decoder.old.bytes decoder.old.index) }
@@ -180,23 +220,65 @@ impl BinDecodable for Name {
         // The same, said as of every read: see `BinDecodable::read`.
         ensures tracks { Tracks (λ _. decoder.old.index ∷ []) decoder.old decoder.new result }
     {
-        let alloc = decoder.allocator();
+        let mut name = Name::root(decoder.allocator());
+        name.read_in_place(decoder)?;
+        Ok(name)
+    }
+}
+
+impl Name {
+    /// Reads a name as `read` does, but in the place of this one, since it is faster not to move what was read.
+    ///
+    /// # Errors
+    ///
+    /// Those of `read`. This name stays then.
+    // Each caller has a copy of its own, since a name is read in fewer instructions so.
+    #[inline(always)]
+    pub fn read_in_place(&mut self, decoder: &mut BinDecoder<'_>) -> Result<(), DecodeError>
+        ensures read { Reads (λ _. self.new) decoder.old decoder.new result
+            (name_at decoder.old.bytes decoder.old.index) }
+        // The targets of the pointers in the name's spelling are kept in addition, and no others.
+        ensures passes { OnOk result
+            ((h : Spelled decoder.old.bytes self.new.labels decoder.old.index decoder.old.index
+            decoder.new.index)
+            → decoder.new.kept ≡ set.union decoder.old.kept (set.from_list (passed h))) }
+        // As of every read, see `BinDecodable::read`: of this name.
+        ensures tracks { Tracks (λ _. decoder.old.index ∷ []) decoder.old decoder.new result }
+    {
+        Ok(self.read_labels(decoder)?)
+    }
+
+    /// Reads a name in the place of this one, which stays where that is refused.
+    #[inline(always)]
+    #[tactic(auto, unfolding(crate::specs::reading::Names::name_at))]
+    fn read_labels(&mut self, decoder: &mut BinDecoder<'_>) -> Result<(), NameFault>
+        ensures read { Reads (λ _. self.new) decoder.old decoder.new (told result)
+            (name_at decoder.old.bytes decoder.old.index) }
+        // The targets of the pointers in the name's spelling are kept in addition, and no others.
+        ensures passes { OnOk result
+            ((h : Spelled decoder.old.bytes self.new.labels decoder.old.index decoder.old.index
+            decoder.new.index)
+            → decoder.new.kept ≡ set.union decoder.old.kept (set.from_list (passed h))) }
+        // As of every read, see `BinDecodable::read`: of this name.
+        ensures tracks { Tracks (λ _. decoder.old.index ∷ []) decoder.old decoder.new
+            (told result) }
+    {
         let start = decoder.index();
         let own = decoder.rest();
         let piece = read_piece(own, 0)?;
         let Some(target) = piece.pointer else {
-            let mut labels = Labels::none(alloc, true);
-            labels.set(own, piece.len, &[])?;
+            self.labels.set(own, piece.len, &[])?;
+            self.labels.set_fqdn(true);
             decoder.move_to(start + piece.len + 1);
-            return Ok(Name { labels });
+            return Ok(());
         };
         // Labels that aren't kept yet are at the second look.
         'look: loop {
             if let Some(kept) = kept_labels(decoder, target, start, piece.len)? {
-                let mut labels = Labels::none(alloc, true);
-                labels.set(own, piece.len, kept)?;
+                self.labels.set(own, piece.len, kept)?;
+                self.labels.set_fqdn(true);
                 decoder.move_to(start + piece.len + 2);
-                return Ok(Name { labels });
+                return Ok(());
             }
             keep_target(decoder, target, piece.len)?;
         }

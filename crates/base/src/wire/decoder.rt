@@ -14,7 +14,7 @@ use crate::error::DecodeError;
 use crate::limits::POINTER_LIMIT;
 use crate::name::reading::NamePiece;
 use crate::wire::pointer_cache::PointerCache;
-use std::alloc::Global;
+use std::alloc::{AllocError, Global};
 use std::marker::Model;
 
 /// Reads values one by one from a buffer, which a name in it may point back into.
@@ -155,12 +155,11 @@ impl<'a> BinDecoder<'a> {
     /// Keeps the labels at an offset that a pointer led to: those of the piece there, and then those that its pointer
     /// leads to.
     #[inline(always)]
-    pub(crate) fn keep(&mut self, target: u16, piece: NamePiece) -> Result<(), DecodeError>
+    pub(crate) fn keep(&mut self, target: u16, piece: NamePiece) -> Result<(), AllocError>
         requires { CanKeep self.old target piece }
         ensures ok { OnOk result (self.new
             ≡ record self.old { kept = set.insert self.old.kept target }) }
         ensures err { OnErr result (self.new ≡ self.old) }
-        ensures only { IsOkUnless result DecodeError.Memory }
     {
         let most = self.buffer.len().min(POINTER_LIMIT) as u16;
         let bytes = &self.buffer[usize::from(target)..];

@@ -24,10 +24,7 @@ pub fn read_many<T: BinDecodable>(
         (λ _. many_names T.read_at T.names_at count decoder.old.bytes decoder.old.index)
         decoder.old decoder.new result }
 {
-    let mut values = Vec::new(decoder.allocator());
-    if count > 1 {
-        values.reserve(count.min(decoder.len()))?;
-    }
+    let mut values = Vec::with_capacity(decoder.allocator(), count.min(decoder.len()))?;
     for _ in 0..count {
         let value = T::read(decoder)?;
         values.push(value)?;

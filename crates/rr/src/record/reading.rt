@@ -59,9 +59,7 @@ impl Record<RData> {
         ensures tracks { Tracks (λ _. record_places decoder.old.bytes decoder.old.index)
             decoder.old decoder.new result }
     {
-        let owner = Name::read(decoder)?;
-        // What was there takes no memory, and a test of that would cost time.
-        mem::forget(mem::replace(&mut self.name, owner));
+        self.name.read_in_place(decoder)?;
         let type_place = decoder.index();
         let record_type = RecordType::read(decoder)?;
         if is_opt(record_type) && !self.name.is_root() {

@@ -115,6 +115,10 @@ fn fault_of(
         ≡ fault_in_section is_additional op_code (section_value [] edns.now signature.now)
         next.now }
 {
+    // Most records pass at once.
+    if signature.is_none() && !next.rdata.is_update() && !stands_among_additionals(record_type) {
+        return None;
+    }
     if next.rdata.is_update() && op_code != OpCode::Update && !is_edns(record_type) {
         return Some(DecodeError::InvalidEmptyRecord);
     }

@@ -2,6 +2,7 @@ use Rattle.std.proofs.Common.{◌∙◌, Ok, Err, Result, ap, sym, subst, arith}
 use Rattle.std.proofs.lemmas.Result.{err_from_is_err_and}
 use Rattle.std.proofs.lemmas.Grind.{common_steps}
 use Rattle.std.specs.Prelude.{OnErr}
+use Rattle.base.specs.reading.NameFault.{fault_of}
 use Rattle.base.specs.reading.Tracks.{IsBounded}
 use Rattle.base.proofs.reading.GatherLemmas.{fails_is, gathers_none}
 use Rattle.base.proofs.reading.PieceLemmas.{piece_refused}
@@ -20,7 +21,7 @@ pub returns-in_err-piece-clause-read : goal.returns-in_err-piece-clause-read
 returns-in_err-piece-clause-read c =
     let p = err_from_is_err_and c.from_residual.result c.from_residual.ensures.1 in
     let old = c.args.decoder.now in
-    rw (p.1, p.2) (fails_is c.in_err-piece.field-0.0 _ (piece_refused
+    rw (p.1, p.2) (fails_is (fault_of c.in_err-piece.field-0.0) _ (piece_refused
     (gathers_none old.bytes c.args.target c.args.used c.requires.new.inside c.requires.few) c.follow.ensures.lent
     c.in_err-piece.ensures.piece))
 
@@ -37,8 +38,8 @@ returns-in_err-kept_labels-clause-read c =
     let p = err_from_is_err_and c.from_residual-in_err-kept_labels.result
     c.from_residual-in_err-kept_labels.ensures.1 in
     let k = c.in_err-kept_labels.ensures in
-    rw (p.1, p.2) (fails_is c.in_err-kept_labels.field-0.0 _ (walked_nowhere c.pieces.invariant c.in-Some.is
-    (λ below. k.refused (omega (arith, below, c.from.ensures))) ∙ ap Err (sym k.err)))
+    rw (p.1, p.2) (fails_is (fault_of c.in_err-kept_labels.field-0.0) _ (walked_nowhere c.pieces.invariant c.in-Some.is
+    (λ below. k.refused (omega (arith, below, c.from.ensures))) ∙ ap (λ fault. Err (fault_of fault)) (sym k.err)))
 
 pub returns-in_err-kept_labels-clause-bounded : goal.returns-in_err-kept_labels-clause-bounded
 returns-in_err-kept_labels-clause-bounded c =
@@ -51,7 +52,7 @@ pub returns-in_err-piece-2-clause-read : goal.returns-in_err-piece-2-clause-read
 returns-in_err-piece-2-clause-read c =
     let p = err_from_is_err_and c.from_residual-in_err-piece-2.result c.from_residual-in_err-piece-2.ensures.1 in
     let k = c.in_ok-kept_labels.ensures in
-    let e = c.in_err-piece-2.field-0.0 in
+    let e = fault_of c.in_err-piece-2.field-0.0 in
     rw (p.1, p.2) (fails_is e _ (next_refused c.pieces.invariant c.in-Some.is (omega (arith, k.below, c.from.ensures))
     (sym k.is ∙ sym c.is_some.ensures ∙ c.if-is_some.false) c.follow-in-Some.ensures.counted
     c.follow-in-Some.ensures.lent c.in_err-piece-2.ensures.piece))
