@@ -231,7 +231,7 @@ impl Name {
     ///
     /// # Errors
     ///
-    /// Those of `read`. This name stays then.
+    /// Those of `read`. Of this name nothing is said then.
     // Each caller has a copy of its own, since a name is read in fewer instructions so.
     #[inline(always)]
     pub fn read_in_place(&mut self, decoder: &mut BinDecoder<'_>) -> Result<(), DecodeError>
@@ -248,7 +248,7 @@ impl Name {
         Ok(self.read_labels(decoder)?)
     }
 
-    /// Reads a name in the place of this one, which stays where that is refused.
+    /// Reads a name in the place of this one.
     #[inline(always)]
     #[tactic(auto, unfolding(crate::specs::reading::Names::name_at))]
     fn read_labels(&mut self, decoder: &mut BinDecoder<'_>) -> Result<(), NameFault>
