@@ -7,4 +7,5 @@ pub mod PatchLemmas
 pub mod SaysLemmas
 pub mod SliceLemmas
 pub mod SuffixLemmas
+pub mod FirstLemmas
 pub mod WrittenLemmas

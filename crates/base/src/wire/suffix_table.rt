@@ -4,10 +4,13 @@ ghost use Rattle.base.specs.declared.limits.TheConstants.{MAX_LABELS, POINTER_LI
 ghost use Rattle.std.specs.Prelude.{◌≡◌, ◌≢◌, ◌<◌, ◌≤◌, ◌++◌, ◌∷◌, [], length, take, All, Any, MatchOption, OnOk, OnErr, IfSome};
 ghost use Rattle.base.specs.names.Labels.{labels_of, IsWire};
 ghost use Rattle.base.specs.writing.State.{front_number};
-ghost use Rattle.base.specs.writing.Suffixes.{index_key};
+ghost use Rattle.base.specs.writing.Suffixes.{index_key, offset_in};
 ghost use Rattle.base.specs.writing.Written.{found_in};
 
+mod first;
+
 use crate::wire::suffix::{Suffix, front_number};
+use crate::wire::suffix_table::first::FirstSuffixes;
 use std::alloc::{AllocError, Global};
 use std::collections::BTreeMap;
 use std::marker::Model;
@@ -19,9 +22,6 @@ pub trait HasSuffixes {
 
     ghost suffixes: { Self → List Stored };
 }
-
-/// How many suffixes are looked up one by one.
-const FIRST: usize = 24;
 
 /// Room for the key of the longest suffix: a number of four bytes, and the labels of a name (RFC 1035, 2.3.4).
 const KEY: usize = 258;
@@ -42,10 +42,11 @@ fn key_into(wire: &[u8], front: u32, room: &mut [u8; KEY]) -> usize
 
 /// The suffixes that a later name may point to, in order of offset, each once.
 ///
-/// The first ones are looked up one by one, so that a message with few names pays for no index.
+/// The first ones stand inside the table and are looked up one by one, so that a message with few names takes no memory
+/// for them and pays for no index.
 #[derive(Drop)]
 pub struct SuffixTable {
-    first: Vec<Suffix>,
+    first: FirstSuffixes,
     others: Vec<Suffix>,
     /// The offset of each of the others, by its key.
     index: BTreeMap<Vec<u8>, u16>,
@@ -58,9 +59,9 @@ impl Model for SuffixTable {
 
     ghost Value = { List Stored };
 
-    ghost view = { λ t. t.first.items ++ t.others.items };
+    ghost view = { λ t. t.first ++ t.others.items };
 
-    ghost invariant = { λ t. IsTable (offset_in t.index) t.first.items t.others.items };
+    ghost invariant = { λ t. IsTable (offset_in t.index) t.first t.others.items };
 }
 
 impl HasSuffixes for SuffixTable {
@@ -73,7 +74,7 @@ impl SuffixTable {
         ensures { result ≡ [] }
     {
         SuffixTable {
-            first: Vec::new(alloc),
+            first: FirstSuffixes::new(),
             others: Vec::new(alloc),
             index: BTreeMap::new(alloc),
         }
@@ -97,17 +98,13 @@ impl SuffixTable {
         ensures value { result ≡ found_in self.now (labels_of wire.now) }
     {
         let front = front_number(wire);
-        for suffix in &self.first {
-            if suffix.is(wire, front) {
-                return Some(suffix.offset());
-            }
+        if let Some(offset) = self.first.find(wire, front) {
+            return Some(offset);
         }
         if self.others.is_empty() {
             return None;
         }
-        let mut room = [0; KEY];
-        let len = key_into(wire, front, &mut room);
-        self.index.get(&room[..len]).copied()
+        find_other(&self.index, wire, front)
     }
 
     /// Stores a suffix of these labels, each with its length before it, that isn't stored yet, after all others.
@@ -126,12 +123,30 @@ impl SuffixTable {
             ≡ self.old ++ record { labels = labels_of wire.now; offset = at } ∷ []) }
         ensures err { OnErr result (self.new ≡ self.old) }
     {
-        let alloc = *self.first.allocator();
-        let suffix = Suffix::new(alloc, wire, at)?;
-        if self.first.len() < FIRST && self.others.is_empty() {
-            SuffixTable::push_first(&mut self.first, suffix)?;
+        if self.others.is_empty() && self.first.push(wire, front_number(wire), at) {
             return Ok(());
         }
+        self.store_other(wire, at)
+    }
+
+    /// The same with a suffix that has no room inside. It stands by itself, since that room for its key costs what calls
+    /// it, and few messages have so many suffixes.
+    ///
+    /// # Errors
+    ///
+    /// If memory runs out, with nothing stored.
+    #[inline(never)]
+    fn store_other(&mut self, wire: &[u8], at: u16) -> Result<(), AllocError>
+        requires wire { IsWire wire.now }
+        requires near { at < POINTER_LIMIT }
+        requires absent { All (λ t. t.labels ≢ labels_of wire.now) self.old }
+        requires later { All (λ t. t.offset < at) self.old }
+        ensures ok { OnOk result (self.new
+            ≡ self.old ++ record { labels = labels_of wire.now; offset = at } ∷ []) }
+        ensures err { OnErr result (self.new ≡ self.old) }
+    {
+        let alloc = *self.others.allocator();
+        let suffix = Suffix::new(alloc, wire, at)?;
         let mut room = [0; KEY];
         let len = key_into(wire, suffix.front(), &mut room);
         let key = Vec::from_slice(alloc, &room[..len])?;
@@ -155,20 +170,16 @@ impl SuffixTable {
         }
         self.first.truncate(count);
     }
+}
 
-    /// Stores one of the first suffixes, and with the first of all makes room for the others of these.
-    ///
-    /// # Errors
-    ///
-    /// If memory runs out, with nothing stored.
-    fn push_first(first: &mut Vec<Suffix>, suffix: Suffix) -> Result<(), AllocError>
-        ensures ok { OnOk result (first.new.items ≡ first.old.items ++ suffix ∷ []) }
-        ensures err { OnErr result (first.new.items ≡ first.old.items) }
-    {
-        if first.is_empty() {
-            first.reserve(FIRST)?;
-        }
-        first.push(suffix)?;
-        Ok(())
-    }
+/// The offset that the index has for a suffix of these labels. It stands by itself, as `store_other` does.
+#[inline(never)]
+fn find_other(index: &BTreeMap<Vec<u8>, u16>, wire: &[u8], front: u32) -> Option<u16>
+    requires short { length wire.now ≤ MAX_LABELS }
+    requires front { front ≡ front_number wire.now }
+    ensures { result ≡ offset_in index.now wire.now }
+{
+    let mut room = [0; KEY];
+    let len = key_into(wire, front, &mut room);
+    index.get(&room[..len]).copied()
 }
