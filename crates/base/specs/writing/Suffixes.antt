@@ -1,6 +1,7 @@
 -- The table of suffixes: a list in order of offset, and an ordered index of it.
 use Rattle.base.specs.declared.limits.TheConstants.{POINTER_LIMIT}
-use Rattle.std.specs.Prelude.{◌≡◌, ◌≢◌, ℕ, ◌<◌, ◌≤◌, ◌++◌, List, Option, Some, Vec, All, length}
+use Rattle.std.specs.Prelude.{◌≡◌, ◌≢◌, ℕ, ◌+◌, ◌-◌, ◌*◌, ◌/◌, ◌%◌, ◌^◌, ◌<◌, ◌≤◌, ◌++◌, List, Option, Some, Vec, All, length}
+use Rattle.std.specs.Prelude.{drop, get_or}
 use Rattle.std.specs.BTreeMap.{BTreeMap}
 use Rattle.std.specs.Int.{w32, to_be_bytes}
 use Rattle.std.specs.List.{AllPairs, slice_range}
@@ -31,9 +32,22 @@ pub record IsEntry (text : List ℕ) (e : Entry) : Type 0 where
   pub front : e.front ≡ front_number (bytes_of text e)
   pub near : e.offset < POINTER_LIMIT
 
--- the key of a suffix of these bytes: the number of the first of them, the highest byte first, and all of them
+-- a number of the first eight bytes, of the last eight, and of how many there are
+abbrev pub key_number : List ℕ → ℕ
+key_number bytes =
+    ((front_number bytes + (front_number (drop (length bytes - 8) bytes) * 31) % 2 ^ 32) % 2 ^ 32 + length bytes) % 2 ^ 32
+
+-- the key of a suffix of these bytes: their number, the highest byte first, and all of them
 abbrev pub index_key : List ℕ → List ℕ
-index_key bytes = to_be_bytes w32 (front_number bytes) ++ bytes
+index_key bytes = to_be_bytes w32 (key_number bytes) ++ bytes
+
+-- the mark of a suffix of these bytes: the highest bits of a product of their number, for which all its bits count
+abbrev pub mark_of : List ℕ → ℕ
+mark_of bytes = ((key_number bytes * 2654435761) % 2 ^ 32) / 2 ^ 17
+
+-- each suffix has its mark
+abbrev pub AreMarked : List ℕ → List Stored → Type 0
+AreMarked marks ts = All (λ (t : Stored). get_or marks (mark_of (wire_of t.labels)) 0 ≡ 1) ts
 
 -- the offset that the index has for a suffix of these bytes
 abbrev pub offset_in : BTreeMap (Vec ℕ Global) ℕ → List ℕ → Option ℕ

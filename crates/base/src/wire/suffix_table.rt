@@ -1,10 +1,10 @@
 //! The suffixes of names that were written, with an index of them (RFC 1035, 4.1.4).
 
 ghost use Rattle.base.specs.declared.limits.TheConstants.{MAX_LABELS, POINTER_LIMIT};
-ghost use Rattle.std.specs.Prelude.{◌≡◌, ◌≢◌, ◌<◌, ◌≤◌, ◌++◌, ◌∷◌, [], length, take, All, Any, MatchOption, OnOk, OnErr, IfSome};
+ghost use Rattle.base.specs.declared.wire.suffix_table.TheConstants.{MARKS};
+ghost use Rattle.std.specs.Prelude.{◌≡◌, ◌≢◌, ◌<◌, ◌≤◌, ◌++◌, ◌∷◌, [], get_or, length, take, ℕ, All, Any, MatchOption, OnOk, OnErr, IfSome, IsTrue, ◌↔◌};
 ghost use Rattle.base.specs.names.Labels.{labels_of, IsWire};
-ghost use Rattle.base.specs.writing.State.{front_number};
-ghost use Rattle.base.specs.writing.Suffixes.{index_key, offset_in};
+ghost use Rattle.base.specs.writing.Suffixes.{index_key, key_number, mark_of, offset_in};
 ghost use Rattle.base.specs.writing.Written.{found_in};
 
 mod first;
@@ -26,18 +26,62 @@ pub trait HasSuffixes {
 /// Room for the key of the longest suffix: a number of four bytes, and the labels of a name (RFC 1035, 2.3.4).
 const KEY: usize = 258;
 
-/// Puts the key of a suffix of these labels at the front of the room, and answers how many bytes it has. The number of
-/// their first bytes stands before the labels, so that most keys differ early.
-fn key_into(wire: &[u8], front: u32, room: &mut [u8; KEY]) -> usize
-    requires short { length wire.now ≤ MAX_LABELS }
-    requires front { front ≡ front_number wire.now }
+/// How many marks there are.
+const MARKS: usize = 32_768;
+
+/// A number of labels by which most are told from others, however long they are alike at the front or at the end: of
+/// their first eight bytes, of their last eight, and of how many there are.
+fn key_number(wire: &[u8]) -> u32
+    requires { length wire.now ≤ MAX_LABELS }
+    ensures { result ≡ key_number wire.now }
+{
+    let last = front_number(&wire[wire.len().saturating_sub(8)..]);
+    front_number(wire)
+        .wrapping_add(last.wrapping_mul(31))
+        .wrapping_add(wire.len() as u32)
+}
+
+/// The mark of a suffix of these labels.
+fn mark_of(wire: &[u8]) -> usize
+    requires { length wire.now ≤ MAX_LABELS }
+    ensures value { result ≡ mark_of wire.now }
+    ensures below { result < MARKS }
+{
+    (key_number(wire).wrapping_mul(0x9E37_79B1) >> 17) as usize
+}
+
+/// Whether the mark of a suffix of these labels is set.
+fn is_marked(marks: &[u8], wire: &[u8]) -> bool
+    requires { length wire.now ≤ MAX_LABELS }
+    ensures { IsTrue result ↔ (get_or marks.now (mark_of wire.now) 0 ≡ 1) }
+{
+    let mark = mark_of(wire);
+    mark < marks.len() && marks[mark] == 1
+}
+
+/// Puts the key of a suffix of these labels at the front of the room, and answers how many bytes it has. Their number
+/// stands before the labels, so that most keys differ early.
+fn key_into(wire: &[u8], room: &mut [u8; KEY]) -> usize
+    requires { length wire.now ≤ MAX_LABELS }
     ensures len { result ≤ 258 }
     ensures key { take result room.new ≡ index_key wire.now }
 {
     let len = 4 + wire.len();
-    room[..4].copy_from_slice(&front.to_be_bytes());
+    room[..4].copy_from_slice(&key_number(wire).to_be_bytes());
     room[4..len].copy_from_slice(wire);
     len
+}
+
+/// Makes the marks, where there are none yet.
+fn make_marks(marks: &mut Vec<u8>) -> Result<(), AllocError>
+    ensures ok { OnOk result (MARKS ≤ length marks.new.items) }
+    // A mark that is set stays.
+    ensures same { (k : ℕ) → get_or marks.old.items k 0 ≡ 1 → get_or marks.new.items k 0 ≡ 1 }
+{
+    if marks.len() < MARKS {
+        marks.resize(MARKS, 0)?;
+    }
+    Ok(())
 }
 
 /// The suffixes that a later name may point to, in order of offset, each once.
@@ -50,18 +94,21 @@ pub struct SuffixTable {
     others: Vec<Suffix>,
     /// The offset of each of the others, by its key.
     index: BTreeMap<Vec<u8>, u16>,
+    /// 1 at the mark of each of the others, so that most labels that aren't stored are never looked up.
+    marks: Vec<u8>,
 }
 
 impl Model for SuffixTable {
     ghost use Rattle.std.specs.Prelude.{◌++◌, List};
     ghost use Rattle.base.specs.writing.State.{Stored};
-    ghost use Rattle.base.specs.writing.Suffixes.{offset_in, IsTable};
+    ghost use Rattle.base.specs.writing.Suffixes.{offset_in, AreMarked, IsTable};
 
     ghost Value = { List Stored };
 
     ghost view = { λ t. t.first ++ t.others.items };
 
-    ghost invariant = { λ t. IsTable (offset_in t.index) t.first t.others.items };
+    ghost invariant = { λ t. IsTable (offset_in t.index) t.first t.others.items
+        × AreMarked t.marks.items t.others.items };
 }
 
 impl HasSuffixes for SuffixTable {
@@ -77,6 +124,7 @@ impl SuffixTable {
             first: FirstSuffixes::new(),
             others: Vec::new(alloc),
             index: BTreeMap::new(alloc),
+            marks: Vec::new(alloc),
         }
     }
 
@@ -104,7 +152,10 @@ impl SuffixTable {
         if self.others.is_empty() {
             return None;
         }
-        find_other(&self.index, wire, front)
+        if is_marked(&self.marks, wire) {
+            return find_other(&self.index, wire);
+        }
+        None
     }
 
     /// Stores a suffix of these labels, each with its length before it, that isn't stored yet, after all others.
@@ -148,10 +199,12 @@ impl SuffixTable {
         let alloc = *self.others.allocator();
         let suffix = Suffix::new(alloc, wire, at)?;
         let mut room = [0; KEY];
-        let len = key_into(wire, suffix.front(), &mut room);
+        let len = key_into(wire, &mut room);
         let key = Vec::from_slice(alloc, &room[..len])?;
+        make_marks(&mut self.marks)?;
         self.others.reserve(1)?;
         self.index.insert(key, at)?;
+        self.marks[mark_of(wire)] = 1;
         self.others.push_reserved(suffix);
         Ok(())
     }
@@ -164,7 +217,7 @@ impl SuffixTable {
         while self.others.len() > after {
             if let Some(suffix) = self.others.pop() {
                 let mut room = [0; KEY];
-                let len = key_into(suffix.as_wire(), suffix.front(), &mut room);
+                let len = key_into(suffix.as_wire(), &mut room);
                 self.index.remove(&room[..len]);
             }
         }
@@ -174,12 +227,11 @@ impl SuffixTable {
 
 /// The offset that the index has for a suffix of these labels. It stands by itself, as `store_other` does.
 #[inline(never)]
-fn find_other(index: &BTreeMap<Vec<u8>, u16>, wire: &[u8], front: u32) -> Option<u16>
-    requires short { length wire.now ≤ MAX_LABELS }
-    requires front { front ≡ front_number wire.now }
+fn find_other(index: &BTreeMap<Vec<u8>, u16>, wire: &[u8]) -> Option<u16>
+    requires { length wire.now ≤ MAX_LABELS }
     ensures { result ≡ offset_in index.now wire.now }
 {
     let mut room = [0; KEY];
-    let len = key_into(wire, front, &mut room);
+    let len = key_into(wire, &mut room);
     index.get(&room[..len]).copied()
 }

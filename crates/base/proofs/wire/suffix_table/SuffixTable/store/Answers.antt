@@ -8,5 +8,8 @@ pub invariant_of-self : goal.invariant_of-self
 invariant_of-self c =
     let t : Stored = record { labels = labels_of c.args.wire.now; offset = c.args.at } in
     let none : length c.self.inside.others.items ≡ 0 = search rules in
-    let is : c.push.new.self ≡ c.self.inside.first ++ t ∷ [] = search rules in
-    IsTable-first t none is c.self.invariant (rw c.self.view_is c.requires.absent) (rw c.self.view_is c.requires.later)
+    let is : c.push.new.self ≡ c.self.inside.first ++ t ∷ [] = search rules in (
+      IsTable-first t none is c.self.invariant.0 (rw c.self.view_is c.requires.absent)
+          (rw c.self.view_is c.requires.later),
+      c.self.invariant.1,
+    )
