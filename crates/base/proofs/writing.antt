@@ -3,8 +3,10 @@ pub mod CompressionLemmas
 pub mod FittingLemmas
 pub mod ItemLemmas
 pub mod LawLemmas
+pub mod MarkLemmas
 pub mod PatchLemmas
 pub mod SaysLemmas
 pub mod SliceLemmas
 pub mod SuffixLemmas
+pub mod FirstLemmas
 pub mod WrittenLemmas

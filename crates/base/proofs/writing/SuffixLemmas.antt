@@ -1,6 +1,6 @@
 -- The table of suffixes, and what storing one and forgetting the last does to it.
 use Rattle.base.specs.declared.limits.TheConstants.{POINTER_LIMIT}
-use Rattle.std.proofs.Common.{◌≡◌, ◌≢◌, ℕ, ◌+◌, ◌-◌, ◌<◌, ◌≤◌, ◌⊎◌, inl, inr, refl, List, [], ◌∷◌, ◌++◌, length, get_or}
+use Rattle.std.proofs.Common.{◌≡◌, ◌≢◌, ℕ, zero, suc, ◌+◌, ◌-◌, ◌<◌, ◌≤◌, ◌⊎◌, inl, inr, refl, List, [], ◌∷◌, ◌++◌, length, get_or}
 use Rattle.std.proofs.Common.{take, drop, ap, sym, ◌∙◌, subst, arith, length-append}
 use Rattle.std.specs.Prelude.{All, Bool, Vec, Option, Some, None, IfSome}
 use Rattle.std.specs.Bool.{Decides}
@@ -11,7 +11,7 @@ use Rattle.std.specs.Ordering.{nat_cmp}
 use Rattle.std.specs.Str.{bytes_eq}
 use Rattle.std.specs.declared.alloc.Global.{Global}
 use Rattle.std.proofs.lemmas.Bool.{cases_Bool, false≢true}
-use Rattle.std.proofs.lemmas.List.{get_or_append_left, get_or_push, drop_more, drop_all, append-nil, append_assoc}
+use Rattle.std.proofs.lemmas.List.{get_or_append_left, get_or_push, append-nil, append_assoc}
 use Rattle.std.proofs.lemmas.List.{take-append-le, take-append-drop, take_all}
 use Rattle.std.proofs.Math.Seq.{drop-append_seam}
 use Rattle.std.proofs.lemmas.List.Elements.{All-nil, All-cons, All-drop, All-pop, All-push}
@@ -22,7 +22,7 @@ use Rattle.base.specs.names.NameOrderLaws.{labels_decide}
 use Rattle.base.specs.writing.SaysName.{found_as, found_past, found_among, none_found}
 use Rattle.base.specs.writing.State.{Stored}
 use Rattle.base.specs.Keys.{indexed_at}
-use Rattle.base.specs.writing.Suffixes.{index_key, offset_in, IsTable}
+use Rattle.base.specs.writing.Suffixes.{index_key, offset_in, InOrder, IsTable}
 use Rattle.base.specs.writing.Written.{found_in}
 use Rattle.base.proofs.IndexedLemmas.{place_here, place_others}
 use Rattle.base.proofs.names.LabelLemmas.{labels_of-wire_of, labels_of_is}
@@ -52,15 +52,19 @@ pub found_later : (t : Stored) (ts : List Stored) (labels : List (List ℕ)) →
     → found_in (t ∷ ts) labels ≡ found_in ts labels
 found_later t ts labels other = found_past (t ∷ []) ts labels (alone t labels other)
 
--- from a place of the first list on
-pub found_at : (first others : List Stored) (k : ℕ) (t : Stored) (labels : List (List ℕ)) → k < length first
-    → t ≡ get_or first k t
-    → found_in (drop k first ++ others) labels ≡ found_in (t ∷ (drop (k + 1) first ++ others)) labels
-found_at first others k t labels inside at = rw (drop_more first k t inside, ← at)
+-- what the first list has is found before the others
+pub found_some : (first others : List Stored) (labels : List (List ℕ)) (o : ℕ) → found_in first labels ≡ Some o
+    → found_in (first ++ others) labels ≡ Some o
+found_some [] others labels o is = absurd cc
+found_some (t ∷ ts) others labels o is = elim (cases_Bool (same_labels t.labels labels)) [
+  | inl same ↦ rw same (rw same at is)
+  | inr differ ↦ rw differ (found_some ts others labels o (rw differ at is))
+]
 
-pub found_end : (first others : List Stored) (k : ℕ) (labels : List (List ℕ)) → length first ≤ k
-    → found_in (drop k first ++ others) labels ≡ found_in others labels
-found_end first others k labels all = rw (drop_all k first all)
+-- and else what they have
+pub found_none : (first others : List Stored) (labels : List (List ℕ)) → found_in first labels ≡ None
+    → found_in (first ++ others) labels ≡ found_in others labels
+found_none first others labels is = found_past first others labels (found_as first labels is)
 
 -- a pointer can name what is found
 pub found_near : (ts : List Stored) (labels : List (List ℕ)) (r : Option ℕ) → All (λ t. t.offset < POINTER_LIMIT) ts
@@ -76,7 +80,7 @@ abbrev Before : Stored → Stored → Type 0
 Before s t = (s.offset < t.offset) × (s.labels ≢ t.labels)
 
 -- the first elements stand in order, and the last is unlike them
-order_first : (xs ys : List Stored) → AllPairs Before (xs ++ ys) → AllPairs Before xs
+pub order_first : (xs ys : List Stored) → AllPairs Before (xs ++ ys) → AllPairs Before xs
 order_first xs ys h i j d less inside =
     let pair = h i j d less (omega (arith, length-append xs ys)) in
     let low : i < length xs = omega arith in
@@ -86,6 +90,17 @@ last_unlike : (xs : List Stored) (u : Stored) → AllPairs Before (xs ++ u ∷ [
 last_unlike xs u h k d inside =
     let pair = h k (length xs) d inside (omega (arith, length-append xs (u ∷ []))) in
     (rw (get_or_append_left xs (u ∷ []) d k inside, get_or_push xs u d (length xs) refl) at pair).1
+
+-- the suffix at a place, whose labels no other has, is the one that is found
+pub found_placed : (ts : List Stored) (k : ℕ) (d : Stored) (labels : List (List ℕ)) → InOrder ts → k < length ts
+    → (get_or ts k d).labels ≡ labels → found_in ts labels ≡ Some (get_or ts k d).offset
+found_placed [] k d labels order inside is = absurd (omega (arith, inside))
+found_placed (t ∷ ts) zero d labels order inside is = found_first t ts labels is
+found_placed (t ∷ ts) (suc k) d labels order inside is =
+    found_later t ts labels (λ same. (order 0 (suc k) d (omega arith) inside).1 (same ∙ sym is))
+    ∙ found_placed ts k d labels
+    (λ i j e less below. order (suc i) (suc j) e (omega (arith, less)) (omega (arith, below)))
+    (omega (arith, inside)) is
 
 -- ---- a change of the index at the key of one suffix
 

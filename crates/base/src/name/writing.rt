@@ -64,14 +64,14 @@ impl Name {
         let mut rest = self.as_wire();
         while let Some((label, tail)) = first_label(rest) {
             if let Some(offset) = encoder.find(rest) {
-                return encoder.append(&(POINTER + offset).to_be_bytes());
+                return encoder.append_u16(POINTER + offset);
             }
             let at = encoder.len();
             encoder.append(&rest[..1 + label.len()])?;
             encoder.store(rest, at)?;
             rest = tail;
         }
-        encoder.append(&[0])
+        encoder.append_byte(0)
     }
 
     /// Writes the name without compression, letters as they are; whether it is absolute isn't written. Neither looks

@@ -15,8 +15,6 @@ pub struct Suffix {
     /// The labels, each with its length before it.
     labels: Labels,
     offset: u16,
-    /// A number of the first bytes of the labels.
-    front: u32,
 }
 
 /// A number of the first eight bytes, by which most labels are told from others; of the first four where there are
@@ -37,15 +35,14 @@ pub(crate) fn front_number(wire: &[u8]) -> u32
 impl Model for Suffix {
     ghost use Rattle.base.specs.declared.limits.TheConstants.{POINTER_LIMIT};
     ghost use Rattle.std.specs.Prelude.{◌≡◌, ◌<◌};
-    ghost use Rattle.base.specs.writing.State.{Stored, front_number};
+    ghost use Rattle.base.specs.writing.State.{Stored};
     ghost use Rattle.base.specs.names.Labels.{labels_of, IsWire};
 
     ghost Value = { Stored };
 
     ghost view = { λ s. record { labels = labels_of s.labels.items; offset = s.offset } };
 
-    ghost invariant = { λ s. IsWire s.labels.items
-        × ((s.offset < POINTER_LIMIT) × (s.front ≡ front_number s.labels.items)) };
+    ghost invariant = { λ s. IsWire s.labels.items };
 }
 
 impl Suffix {
@@ -60,7 +57,6 @@ impl Suffix {
         Ok(Suffix {
             labels: Labels::from_slice(alloc, wire, false)?,
             offset,
-            front: front_number(wire),
         })
     }
 
@@ -70,32 +66,5 @@ impl Suffix {
         ensures wire { IsWire result.now }
     {
         self.labels.as_slice()
-    }
-
-    /// The number of the first bytes of the labels.
-    pub(crate) fn front(&self) -> u32
-        ensures { result ≡ front_number (wire_of self.now.labels) }
-    {
-        self.front
-    }
-
-    /// Whether the suffix has these labels, each with its length before it, byte for byte.
-    pub(crate) fn is(&self, wire: &[u8], front: u32) -> bool
-        // These are labels, each with its length before it.
-        requires run { IsLabelRun wire.now }
-        // This is the number of their first bytes.
-        requires front { front ≡ front_number wire.now }
-        ensures { IsTrue result ↔ (self.now.labels ≡ labels_of wire.now) }
-    {
-        self.front == front && self.labels.as_slice() == wire
-    }
-
-    /// The offset.
-    pub(crate) fn offset(&self) -> u16
-        ensures value { result ≡ self.now.offset }
-        // A pointer can name the offset.
-        ensures near { result < POINTER_LIMIT }
-    {
-        self.offset
     }
 }

@@ -1,13 +1,16 @@
 //! The suffixes of names that were written, with an index of them (RFC 1035, 4.1.4).
 
 ghost use Rattle.base.specs.declared.limits.TheConstants.{MAX_LABELS, POINTER_LIMIT};
-ghost use Rattle.std.specs.Prelude.{◌≡◌, ◌≢◌, ◌<◌, ◌≤◌, ◌++◌, ◌∷◌, [], length, take, All, Any, MatchOption, OnOk, OnErr, IfSome};
+ghost use Rattle.base.specs.declared.wire.suffix_table.TheConstants.{MARKS};
+ghost use Rattle.std.specs.Prelude.{◌≡◌, ◌≢◌, ◌<◌, ◌≤◌, ◌++◌, ◌∷◌, [], get_or, length, take, ℕ, All, Any, MatchOption, OnOk, OnErr, IfSome, IsTrue, ◌↔◌};
 ghost use Rattle.base.specs.names.Labels.{labels_of, IsWire};
-ghost use Rattle.base.specs.writing.State.{front_number};
-ghost use Rattle.base.specs.writing.Suffixes.{index_key};
+ghost use Rattle.base.specs.writing.Suffixes.{index_key, key_number, mark_of, offset_in};
 ghost use Rattle.base.specs.writing.Written.{found_in};
 
+mod first;
+
 use crate::wire::suffix::{Suffix, front_number};
+use crate::wire::suffix_table::first::FirstSuffixes;
 use std::alloc::{AllocError, Global};
 use std::collections::BTreeMap;
 use std::marker::Model;
@@ -20,47 +23,92 @@ pub trait HasSuffixes {
     ghost suffixes: { Self → List Stored };
 }
 
-/// How many suffixes are looked up one by one.
-const FIRST: usize = 24;
-
 /// Room for the key of the longest suffix: a number of four bytes, and the labels of a name (RFC 1035, 2.3.4).
 const KEY: usize = 258;
 
-/// Puts the key of a suffix of these labels at the front of the room, and answers how many bytes it has. The number of
-/// their first bytes stands before the labels, so that most keys differ early.
-fn key_into(wire: &[u8], front: u32, room: &mut [u8; KEY]) -> usize
-    requires short { length wire.now ≤ MAX_LABELS }
-    requires front { front ≡ front_number wire.now }
+/// How many marks there are.
+const MARKS: usize = 32_768;
+
+/// A number of labels by which most are told from others, however long they are alike at the front or at the end: of
+/// their first eight bytes, of their last eight, and of how many there are.
+fn key_number(wire: &[u8]) -> u32
+    requires { length wire.now ≤ MAX_LABELS }
+    ensures { result ≡ key_number wire.now }
+{
+    let last = front_number(&wire[wire.len().saturating_sub(8)..]);
+    front_number(wire)
+        .wrapping_add(last.wrapping_mul(31))
+        .wrapping_add(wire.len() as u32)
+}
+
+/// The mark of a suffix of these labels.
+fn mark_of(wire: &[u8]) -> usize
+    requires { length wire.now ≤ MAX_LABELS }
+    ensures value { result ≡ mark_of wire.now }
+    ensures below { result < MARKS }
+{
+    (key_number(wire).wrapping_mul(0x9E37_79B1) >> 17) as usize
+}
+
+/// Whether the mark of a suffix of these labels is set.
+fn is_marked(marks: &[u8], wire: &[u8]) -> bool
+    requires { length wire.now ≤ MAX_LABELS }
+    ensures { IsTrue result ↔ (get_or marks.now (mark_of wire.now) 0 ≡ 1) }
+{
+    let mark = mark_of(wire);
+    mark < marks.len() && marks[mark] == 1
+}
+
+/// Puts the key of a suffix of these labels at the front of the room, and answers how many bytes it has. Their number
+/// stands before the labels, so that most keys differ early.
+fn key_into(wire: &[u8], room: &mut [u8; KEY]) -> usize
+    requires { length wire.now ≤ MAX_LABELS }
     ensures len { result ≤ 258 }
     ensures key { take result room.new ≡ index_key wire.now }
 {
     let len = 4 + wire.len();
-    room[..4].copy_from_slice(&front.to_be_bytes());
+    room[..4].copy_from_slice(&key_number(wire).to_be_bytes());
     room[4..len].copy_from_slice(wire);
     len
 }
 
+/// Makes the marks, where there are none yet.
+fn make_marks(marks: &mut Vec<u8>) -> Result<(), AllocError>
+    ensures ok { OnOk result (MARKS ≤ length marks.new.items) }
+    // A mark that is set stays.
+    ensures same { (k : ℕ) → get_or marks.old.items k 0 ≡ 1 → get_or marks.new.items k 0 ≡ 1 }
+{
+    if marks.len() < MARKS {
+        marks.resize(MARKS, 0)?;
+    }
+    Ok(())
+}
+
 /// The suffixes that a later name may point to, in order of offset, each once.
 ///
-/// The first ones are looked up one by one, so that a message with few names pays for no index.
+/// The first ones stand inside the table and are looked up one by one, so that a message with few names takes no memory
+/// for them and pays for no index.
 #[derive(Drop)]
 pub struct SuffixTable {
-    first: Vec<Suffix>,
+    first: FirstSuffixes,
     others: Vec<Suffix>,
     /// The offset of each of the others, by its key.
     index: BTreeMap<Vec<u8>, u16>,
+    /// 1 at the mark of each of the others, so that most labels that aren't stored are never looked up.
+    marks: Vec<u8>,
 }
 
 impl Model for SuffixTable {
     ghost use Rattle.std.specs.Prelude.{◌++◌, List};
     ghost use Rattle.base.specs.writing.State.{Stored};
-    ghost use Rattle.base.specs.writing.Suffixes.{offset_in, IsTable};
+    ghost use Rattle.base.specs.writing.Suffixes.{offset_in, AreMarked, IsTable};
 
     ghost Value = { List Stored };
 
-    ghost view = { λ t. t.first.items ++ t.others.items };
+    ghost view = { λ t. t.first ++ t.others.items };
 
-    ghost invariant = { λ t. IsTable (offset_in t.index) t.first.items t.others.items };
+    ghost invariant = { λ t. IsTable (offset_in t.index) t.first t.others.items
+        × AreMarked t.marks.items t.others.items };
 }
 
 impl HasSuffixes for SuffixTable {
@@ -73,9 +121,10 @@ impl SuffixTable {
         ensures { result ≡ [] }
     {
         SuffixTable {
-            first: Vec::new(alloc),
+            first: FirstSuffixes::new(),
             others: Vec::new(alloc),
             index: BTreeMap::new(alloc),
+            marks: Vec::new(alloc),
         }
     }
 
@@ -97,17 +146,16 @@ impl SuffixTable {
         ensures value { result ≡ found_in self.now (labels_of wire.now) }
     {
         let front = front_number(wire);
-        for suffix in &self.first {
-            if suffix.is(wire, front) {
-                return Some(suffix.offset());
-            }
+        if let Some(offset) = self.first.find(wire, front) {
+            return Some(offset);
         }
         if self.others.is_empty() {
             return None;
         }
-        let mut room = [0; KEY];
-        let len = key_into(wire, front, &mut room);
-        self.index.get(&room[..len]).copied()
+        if is_marked(&self.marks, wire) {
+            return find_other(&self.index, wire);
+        }
+        None
     }
 
     /// Stores a suffix of these labels, each with its length before it, that isn't stored yet, after all others.
@@ -126,17 +174,37 @@ impl SuffixTable {
             ≡ self.old ++ record { labels = labels_of wire.now; offset = at } ∷ []) }
         ensures err { OnErr result (self.new ≡ self.old) }
     {
-        let alloc = *self.first.allocator();
-        let suffix = Suffix::new(alloc, wire, at)?;
-        if self.first.len() < FIRST && self.others.is_empty() {
-            SuffixTable::push_first(&mut self.first, suffix)?;
+        if self.others.is_empty() && self.first.push(wire, front_number(wire), at) {
             return Ok(());
         }
+        self.store_other(wire, at)
+    }
+
+    /// The same with a suffix that has no room inside. It stands by itself, since that room for its key costs what calls
+    /// it, and few messages have so many suffixes.
+    ///
+    /// # Errors
+    ///
+    /// If memory runs out, with nothing stored.
+    #[inline(never)]
+    fn store_other(&mut self, wire: &[u8], at: u16) -> Result<(), AllocError>
+        requires wire { IsWire wire.now }
+        requires near { at < POINTER_LIMIT }
+        requires absent { All (λ t. t.labels ≢ labels_of wire.now) self.old }
+        requires later { All (λ t. t.offset < at) self.old }
+        ensures ok { OnOk result (self.new
+            ≡ self.old ++ record { labels = labels_of wire.now; offset = at } ∷ []) }
+        ensures err { OnErr result (self.new ≡ self.old) }
+    {
+        let alloc = *self.others.allocator();
+        let suffix = Suffix::new(alloc, wire, at)?;
         let mut room = [0; KEY];
-        let len = key_into(wire, suffix.front(), &mut room);
+        let len = key_into(wire, &mut room);
         let key = Vec::from_slice(alloc, &room[..len])?;
+        make_marks(&mut self.marks)?;
         self.others.reserve(1)?;
         self.index.insert(key, at)?;
+        self.marks[mark_of(wire)] = 1;
         self.others.push_reserved(suffix);
         Ok(())
     }
@@ -149,26 +217,21 @@ impl SuffixTable {
         while self.others.len() > after {
             if let Some(suffix) = self.others.pop() {
                 let mut room = [0; KEY];
-                let len = key_into(suffix.as_wire(), suffix.front(), &mut room);
+                let len = key_into(suffix.as_wire(), &mut room);
                 self.index.remove(&room[..len]);
             }
         }
         self.first.truncate(count);
     }
+}
 
-    /// Stores one of the first suffixes, and with the first of all makes room for the others of these.
-    ///
-    /// # Errors
-    ///
-    /// If memory runs out, with nothing stored.
-    fn push_first(first: &mut Vec<Suffix>, suffix: Suffix) -> Result<(), AllocError>
-        ensures ok { OnOk result (first.new.items ≡ first.old.items ++ suffix ∷ []) }
-        ensures err { OnErr result (first.new.items ≡ first.old.items) }
-    {
-        if first.is_empty() {
-            first.reserve(FIRST)?;
-        }
-        first.push(suffix)?;
-        Ok(())
-    }
+/// The offset that the index has for a suffix of these labels. It stands by itself, as `store_other` does.
+#[inline(never)]
+fn find_other(index: &BTreeMap<Vec<u8>, u16>, wire: &[u8]) -> Option<u16>
+    requires { length wire.now ≤ MAX_LABELS }
+    ensures { result ≡ offset_in index.now wire.now }
+{
+    let mut room = [0; KEY];
+    let len = key_into(wire, &mut room);
+    index.get(&room[..len]).copied()
 }

@@ -1,6 +1,7 @@
 //! Appends bytes.
 
-ghost use Rattle.std.specs.Prelude.{◌≡◌, ◌+◌, ◌^◌, ◌<◌, Err, length, OnErr};
+ghost use Rattle.std.specs.Int.{w16, to_be_bytes};
+ghost use Rattle.std.specs.Prelude.{◌≡◌, ◌+◌, ◌^◌, ◌<◌, [], ◌∷◌, Err, length, OnErr};
 ghost use Rattle.base.specs.writing.AppendError.{refusal, told};
 ghost use Rattle.base.specs.writing.Laws.{Keeps};
 ghost use Rattle.base.specs.writing.Wire.{state_of};
@@ -66,6 +67,49 @@ impl<'a> BinEncoder<'a> {
             return Err(AppendError::NoRoom);
         }
         self.buffer.extend_from_slice(bytes)?;
+        Ok(())
+    }
+
+    /// Appends one byte, without the detour of a slice.
+    ///
+    /// # Errors
+    ///
+    /// As of `append`.
+    #[inline(always)]
+    pub(crate) fn append_byte(&mut self, byte: u8) -> Result<(), AppendError>
+        ensures keeps { Keeps (state_of self.old) (state_of self.new) }
+        ensures exact { Exactly (just (byte ∷ [])) (state_of self.old) (state_of self.new)
+            (told result) }
+        ensures err { OnErr result (state_of self.new ≡ state_of self.old) }
+    {
+        if usize::from(self.limit) <= self.buffer.len() {
+            return Err(AppendError::NoRoom);
+        }
+        self.buffer.reserve(1)?;
+        self.buffer.push_reserved(byte);
+        Ok(())
+    }
+
+    /// Appends a number in two bytes, the high one first, without the detour of a slice.
+    ///
+    /// # Errors
+    ///
+    /// As of `append`.
+    #[inline(always)]
+    pub(crate) fn append_u16(&mut self, number: u16) -> Result<(), AppendError>
+        ensures keeps { Keeps (state_of self.old) (state_of self.new) }
+        ensures exact { Exactly (just (to_be_bytes w16 number)) (state_of self.old)
+            (state_of self.new) (told result) }
+        ensures err { OnErr result (state_of self.new ≡ state_of self.old) }
+    {
+        let limit = usize::from(self.limit);
+        if limit < self.buffer.len() || limit - self.buffer.len() < 2 {
+            return Err(AppendError::NoRoom);
+        }
+        self.buffer.reserve(2)?;
+        let [high, low] = number.to_be_bytes();
+        self.buffer.push_reserved(high);
+        self.buffer.push_reserved(low);
         Ok(())
     }
 }

@@ -6,7 +6,7 @@ use Rattle.base.specs.writing.AppendError.{refusal, told}
 use Rattle.base.specs.names.Labels.{labels_of}
 use Rattle.base.specs.writing.State.{State, appended, stored}
 use Rattle.base.specs.writing.Wire.{state_of}
-use Rattle.base.specs.writing.Written.{after, both, just, label_of, name}
+use Rattle.base.specs.writing.Written.{after, both, just, label_of, name, pointer}
 use Rattle.base.proofs.names.LabelLemmas.{IsWire-wire_of}
 use Rattle.base.proofs.writing.LawLemmas.{Keeps-same, Keeps-then}
 use Rattle.base.proofs.writing.SaysLemmas.{Keeps-label}
@@ -28,8 +28,8 @@ loop-label-init c =
 label_bytes : (rest x tail : List ℕ) → rest ≡ (length x ∷ x) ++ tail → take (1 + length x) rest ≡ length x ∷ x
 label_bytes rest x tail is = ap (take (1 + length x)) is ∙ take_at (length x ∷ x) tail (1 + length x) (omega arith)
 
-pub slice_bounds-append-end-in-Some : goal.slice_bounds-append-end-in-Some
-slice_bounds-append-end-in-Some c =
+pub slice_bounds-append-end : goal.slice_bounds-append-end
+slice_bounds-append-end c =
     let x = c.in-Some.label.now in
     sym (length-take-le (1 + length x) c.loop-label.rest.now
     (omega (arith, ap length c.in-Some.ensures.bytes, length-append (length x ∷ x) c.in-Some.tail.now)))
@@ -74,18 +74,17 @@ pub returns-in-Some-find-clause-exact : goal.returns-in-Some-find-clause-exact
 returns-in-Some-find-clause-exact c =
     let o = c.in-Some-find.offset in
     let s = state_of c.loop-label.encoder in
-    Exactly-from (told c.append.result) (name c.args.self.now.labels) (just c.to_be_bytes.result)
-    (state_of c.args.encoder.now) s (state_of c.append.new.self)
-    (c.loop-label.invariant.exact ∙ name-by _ _ _ (Some o) s c.in-Some.ensures.labels c.in-Some-find.ensures.value
-    ∙ ap (λ bytes. after (just bytes) s) (sym c.to_be_bytes.ensures))
-    c.append.ensures.exact
+    Exactly-from (told c.append_u16.result) (name c.args.self.now.labels) (pointer o)
+    (state_of c.args.encoder.now) s (state_of c.append_u16.new.self)
+    (c.loop-label.invariant.exact ∙ name-by _ _ _ (Some o) s c.in-Some.ensures.labels c.in-Some-find.ensures.value)
+    c.append_u16.ensures.exact
 
 pub returns-in_err-append-clause-exact : goal.returns-in_err-append-clause-exact
 returns-in_err-append-clause-exact c =
     let x = c.in-Some.label.now in
     let xs = labels_of c.in-Some.tail.now in
     let s = state_of c.loop-label.encoder in
-    let z = state_of c.append-in-Some.new.self in
+    let z = state_of c.append.new.self in
     let e = refusal c.in_err-append.field-0.0 in
     let len = ap length (label_bytes _ _ _ c.in-Some.ensures.bytes) in
     let is = err_from_is_err_and c.from_residual.result c.from_residual.ensures.1 in
@@ -99,17 +98,17 @@ returns-in_err-append-clause-exact c =
 pub returns-clause-exact : goal.returns-clause-exact
 returns-clause-exact c =
     let s = state_of c.loop-label.encoder in
-    Exactly-from (told c.append-2.result) (name c.args.self.now.labels) (just (0 ∷ [])) (state_of c.args.encoder.now) s
-    (state_of c.append-2.new.self)
+    Exactly-from (told c.append_byte.result) (name c.args.self.now.labels) (just (0 ∷ [])) (state_of c.args.encoder.now) s
+    (state_of c.append_byte.new.self)
     (c.loop-label.invariant.exact ∙ ap (λ labels. after (name labels) s) c.in_default.ensures.labels)
-    c.append-2.ensures.exact
+    c.append_byte.ensures.exact
 
 pub returns-clause-keeps : goal.returns-clause-keeps
-returns-clause-keeps c = Keeps-then c.loop-label.invariant.keeps c.append-2.ensures.keeps
+returns-clause-keeps c = Keeps-then c.loop-label.invariant.keeps c.append_byte.ensures.keeps
 
 pub returns-in-Some-find-clause-keeps : goal.returns-in-Some-find-clause-keeps
-returns-in-Some-find-clause-keeps c = Keeps-then c.loop-label.invariant.keeps c.append.ensures.keeps
+returns-in-Some-find-clause-keeps c = Keeps-then c.loop-label.invariant.keeps c.append_u16.ensures.keeps
 
 pub returns-in_err-store-clause-keeps : goal.returns-in_err-store-clause-keeps
 returns-in_err-store-clause-keeps c =
-    rw c.in_err-store.ensures.err (Keeps-then c.loop-label.invariant.keeps c.append-in-Some.ensures.keeps)
+    rw c.in_err-store.ensures.err (Keeps-then c.loop-label.invariant.keeps c.append.ensures.keeps)

@@ -8,7 +8,7 @@ pub returns-clause-key : goal.returns-clause-key
 returns-clause-key c =
     let wire = c.args.wire.now in
     let front : List ℕ = c.copy_from_slice.new.self ++ drop 4 c.args.room.now in
-    let first = c.copy_from_slice.ensures.after ∙ c.to_be_bytes.ensures ∙ ap (to_be_bytes w32) c.requires.front in
+    let first = c.copy_from_slice.ensures.after ∙ c.to_be_bytes.ensures ∙ ap (to_be_bytes w32) c.key_number.ensures in
     let second = c.copy_from_slice-2.ensures.after in
     let four : length c.copy_from_slice.new.self ≡ 4 = ap length first in
     take-put_mid 4 (4 + length wire - 4) front c.copy_from_slice-2.new.self (4 + length wire)

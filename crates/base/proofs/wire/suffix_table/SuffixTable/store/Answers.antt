@@ -1,49 +1,15 @@
-use Rattle.std.proofs.Common.{rules, ◌≡◌, ◌∙◌, ◌++◌, ◌∷◌, [], length, sym, ap, subst, append_assoc, refl}
-use Rattle.std.proofs.lemmas.Result.{err_from_is_err_and}
+use Rattle.std.proofs.Common.{rules, ◌≡◌, ◌++◌, ◌∷◌, [], length}
 use Rattle.base.specs.names.Labels.{labels_of}
 use Rattle.base.specs.writing.State.{Stored}
-use Rattle.base.specs.writing.Suffixes.{index_key, offset_in, IsTable}
-use Rattle.base.proofs.writing.SuffixLemmas.{IsTable-first, IsTable-push}
+use Rattle.base.proofs.writing.SuffixLemmas.{IsTable-first}
 use Rattle.base.proofs.wire.suffix_table.SuffixTable.store.Goals as goal
 
-pub invariant_of-self-then-is_empty : goal.invariant_of-self-then-is_empty
-invariant_of-self-then-is_empty c =
+pub invariant_of-self : goal.invariant_of-self
+invariant_of-self c =
     let t : Stored = record { labels = labels_of c.args.wire.now; offset = c.args.at } in
     let none : length c.self.inside.others.items ≡ 0 = search rules in
-    let is : c.push_first.new.first.items ≡ c.self.inside.first.items ++ t ∷ [] = search rules in
-    IsTable-first t none is c.self.invariant (rw c.self.view_is c.requires.absent) (rw c.self.view_is c.requires.later)
-
-pub invariant_of-self-2 : goal.invariant_of-self-2
-invariant_of-self-2 c =
-    let t : Stored = record { labels = labels_of c.args.wire.now; offset = c.args.at } in
-    let key = c.in_ok-key.ensures.items ∙ c.key_into-len.ensures.key ∙ ap index_key (sym c.requires.wire.whole) in
-    let is : c.self.inside.others.items ++ t ∷ [] ≡ c.push_reserved.new.self.items = search rules in
-    subst (IsTable (offset_in c.insert.new.self) c.self.inside.first.items) is
-    (IsTable-push c.self.inside.index c.insert.new.self t key c.in_ok-insert.ensures.updates c.self.invariant refl
-    c.requires.near (rw c.self.view_is c.requires.absent) (rw c.self.view_is c.requires.later))
-
-pub invariant_of-self-in_err-insert : goal.invariant_of-self-in_err-insert
-invariant_of-self-in_err-insert c = rw (c.in_err-insert.ensures.err, c.in_ok-reserve.ensures.items) c.self.invariant
-
-pub invariant_of-self-in_err-reserve : goal.invariant_of-self-in_err-reserve
-invariant_of-self-in_err-reserve c = rw c.in_err-reserve.ensures.items c.self.invariant
-
-pub returns-clause-ok : goal.returns-clause-ok
-returns-clause-ok c = rw (
-  ← c.self.view_is,
-  append_assoc,
-  c.push_reserved.ensures.items,
-  c.in_ok-reserve.ensures.items,
-  c.in_ok-suffix.ensures,
-) refl
-
--- memory ran out
-pub returns-in_err-reserve : goal.returns-in_err-reserve
-returns-in_err-reserve c =
-    let p = err_from_is_err_and c.from_residual-in_err-reserve.result c.from_residual-in_err-reserve.ensures.1 in
-    rw (p.1, c.in_err-reserve.ensures.items) (record { ok = tt; err = c.self.view_is })
-
-pub returns-in_err-insert : goal.returns-in_err-insert
-returns-in_err-insert c =
-    let p = err_from_is_err_and c.from_residual-in_err-insert.result c.from_residual-in_err-insert.ensures.1 in
-    rw (p.1, c.in_ok-reserve.ensures.items) (record { ok = tt; err = c.self.view_is })
+    let is : c.push.new.self ≡ c.self.inside.first ++ t ∷ [] = search rules in (
+      IsTable-first t none is c.self.invariant.0 (rw c.self.view_is c.requires.absent)
+          (rw c.self.view_is c.requires.later),
+      c.self.invariant.1,
+    )

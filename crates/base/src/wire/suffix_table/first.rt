@@ -1,0 +1,174 @@
+//! The first suffixes, inside the table.
+
+ghost use Rattle.base.specs.declared.limits.TheConstants.{POINTER_LIMIT};
+ghost use Rattle.base.specs.declared.wire.suffix_table.first.TheConstants.{FIRST, HINTS};
+ghost use Rattle.std.specs.Prelude.{◌≡◌, ◌<◌, ◌≤◌, ◌↔◌, ◌++◌, ◌∷◌, [], IfSome, IsTrue, length, take, if◌then◌else◌};
+ghost use Rattle.base.specs.names.Labels.{labels_of, IsWire};
+ghost use Rattle.base.specs.writing.State.{front_number};
+ghost use Rattle.base.specs.writing.Suffixes.{InOrder, IsEntry, bytes_of};
+ghost use Rattle.base.specs.writing.Written.{found_in};
+
+use std::marker::Model;
+
+/// How many suffixes have room.
+const FIRST: usize = 24;
+
+/// How many bytes of labels have room.
+const ROOM: usize = 512;
+
+/// How many hints there are.
+const HINTS: usize = 32;
+
+/// A suffix: where its labels begin and end among the bytes, each with its length before it, and where it is spelled.
+#[derive(Clone, Copy)]
+struct Entry {
+    /// A number of the first bytes of the labels.
+    front: u32,
+    offset: u16,
+    start: u16,
+    end: u16,
+}
+
+/// The suffixes that have room inside the table, in order of offset.
+#[derive(Drop)]
+pub(crate) struct FirstSuffixes {
+    count: usize,
+    used: usize,
+    /// The suffixes, as many as are counted. What stands after them has no meaning.
+    all: [Entry; FIRST],
+    /// The labels of each, one after another. What stands after those in use has no meaning.
+    bytes: [u8; ROOM],
+    /// By the number of the first bytes of labels, the place of the suffix that may have them: it is looked at first, and
+    /// compared.
+    hints: [u8; HINTS],
+}
+
+impl Model for FirstSuffixes {
+    ghost use Rattle.base.specs.declared.wire.suffix_table.first.TheConstants.{FIRST, ROOM};
+    ghost use Rattle.std.specs.Prelude.{◌≡◌, ◌≤◌, All, List, length, map, take};
+    ghost use Rattle.base.specs.writing.State.{Stored};
+    ghost use Rattle.base.specs.writing.Suffixes.{IsEntry, stored_at};
+
+    ghost Value = { List Stored };
+
+    ghost view = { λ t. map (stored_at (take t.used t.bytes)) (take t.count t.all) };
+
+    ghost invariant = { λ t. (((t.count ≤ FIRST) × (length t.all ≡ FIRST))
+        × ((t.used ≤ ROOM) × (length t.bytes ≡ ROOM)))
+        × All (IsEntry (take t.used t.bytes)) (take t.count t.all) };
+}
+
+impl FirstSuffixes {
+    /// No suffix.
+    pub(crate) fn new() -> FirstSuffixes
+        ensures { result ≡ [] }
+    {
+        let unused = Entry {
+            front: 0,
+            offset: 0,
+            start: 0,
+            end: 0,
+        };
+        FirstSuffixes {
+            count: 0,
+            used: 0,
+            all: [unused; FIRST],
+            bytes: [0; ROOM],
+            hints: [0; HINTS],
+        }
+    }
+
+    /// How many suffixes there are.
+    pub(crate) fn len(&self) -> usize
+        ensures value { result ≡ length self.now }
+        ensures few { result ≤ FIRST }
+    {
+        self.count
+    }
+
+    /// Where the suffix of these labels, each with its length before it, is spelled.
+    #[inline(always)]
+    pub(crate) fn find(&self, wire: &[u8], front: u32) -> Option<u16>
+        requires wire { IsWire wire.now }
+        // This is the number of their first bytes.
+        requires front { front ≡ front_number wire.now }
+        // No two have the same labels.
+        requires order { InOrder self.now }
+        ensures value { result ≡ found_in self.now (labels_of wire.now) }
+        // A pointer can name the offset.
+        ensures near { IfSome result (λ offset. offset < POINTER_LIMIT) }
+    {
+        let hint = usize::from(self.hints[slot_of(front)]);
+        if hint < self.count {
+            let hinted = self.all[hint];
+            if hinted.is(&self.bytes[..self.used], wire, front) {
+                return Some(hinted.offset);
+            }
+        }
+        for entry in &self.all[..self.count] {
+            if entry.is(&self.bytes[..self.used], wire, front) {
+                return Some(entry.offset);
+            }
+        }
+        None
+    }
+
+    /// Stores a suffix of these labels after the others, if it has room.
+    #[inline(always)]
+    pub(crate) fn push(&mut self, wire: &[u8], front: u32, offset: u16) -> bool
+        requires wire { IsWire wire.now }
+        requires front { front ≡ front_number wire.now }
+        // A pointer can name the offset.
+        requires near { offset < POINTER_LIMIT }
+        ensures { self.new ≡ (if result then self.old
+            ++ record { labels = labels_of wire.now; offset = offset } ∷ [] else self.old) }
+    {
+        let start = self.used;
+        if self.count >= FIRST || wire.len() > ROOM - start {
+            return false;
+        }
+        let end = start + wire.len();
+        self.bytes[start..end].copy_from_slice(wire);
+        self.all[self.count] = Entry {
+            front,
+            offset,
+            start: start as u16,
+            end: end as u16,
+        };
+        self.hints[slot_of(front)] = self.count as u8;
+        self.used = end;
+        self.count += 1;
+        true
+    }
+
+    /// Forgets all but the first `count` suffixes.
+    pub(crate) fn truncate(&mut self, count: usize)
+        ensures { self.new ≡ take count self.old }
+    {
+        if count < self.count {
+            self.count = count;
+        }
+    }
+}
+
+impl Entry {
+    /// Whether the suffix has these labels, byte for byte.
+    #[inline(always)]
+    fn is(&self, bytes: &[u8], wire: &[u8], front: u32) -> bool
+        requires entry { IsEntry bytes.now self.now }
+        requires wire { IsWire wire.now }
+        requires front { front ≡ front_number wire.now }
+        ensures { IsTrue result ↔ (labels_of (bytes_of bytes.now self.now) ≡ labels_of wire.now) }
+    {
+        self.front == front && &bytes[usize::from(self.start)..usize::from(self.end)] == wire
+    }
+}
+
+/// The place among the hints of those of a number.
+#[inline(always)]
+fn slot_of(front: u32) -> usize
+    ensures { result < HINTS }
+{
+    // All bits of the number count for the highest of the product, of which five are taken.
+    (front.wrapping_mul(0x9E37_79B1) >> 27) as usize
+}
