@@ -81,12 +81,15 @@ def costs(of_one, program, shape):
 
 
 def measure(each, of_one, program, shown):
-    """Prints the shapes that cost most, and answers whether all keep the goals."""
+    """Prints the shapes that cost most to read and to write, and answers whether all keep the goals."""
     shapes = [(shape,) for shape in all_shapes()]
-    rows = [(shape, *counts) for (shape,), counts in each(partial(costs, of_one, program), shapes)]
-    print(f"| Of {len(rows)} messages of 64 KiB the dearest | Bytes | Read, a byte | Written, a byte |")
-    print("|---|---|---|---|")
-    rows.sort(key=lambda row: -max(count / goal for count, goal in zip(row[1:], GOALS.values()) if count))
-    for (words, message), *counts in rows[:shown]:
-        print(f"| {words} | {len(message):,} | " + " | ".join(f"{count:.0f}" for count in counts) + " |", flush=True)
-    return all(count <= goal for row in rows for count, goal in zip(row[1:], GOALS.values()) if count)
+    rows = [(*shape, *counts) for (shape,), counts in each(partial(costs, of_one, program), shapes)]
+    print(f"| Of {len(rows)} messages of 64 KiB the dearest | Bytes | Instructions a byte |")
+    print("|---|---|---|")
+    right = True
+    for at, (what, goal) in enumerate(GOALS.items(), 2):
+        dearest = sorted((row for row in rows if row[at]), key=lambda row: -row[at])
+        right = dearest[0][at] <= goal and right
+        for row in dearest[:shown]:
+            print(f"| {what}: {row[0]} | {len(row[1]):,} | {row[at]:.0f} |", flush=True)
+    return right

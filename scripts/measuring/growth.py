@@ -44,8 +44,8 @@ SIDE_BY_SIDE = [
     ("100,000 owners at random", 100_000, zones.at_random),
 ]
 RUNS = 7
-# how many of the dearest messages are shown
-SHOWN = 8
+# how many of the dearest messages are shown, of those that are read and of those that are written
+SHOWN = 4
 
 
 def line(shape, sizes, counts, memory=None):
