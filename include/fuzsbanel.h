@@ -347,11 +347,13 @@ struct fuzsbanel_zone_handle {
 
 /* Opens the handle at the zone `origin`, whose records are those of the text, and answers 0; what the handle held
  * before is freed. An `$ORIGIN` of the text says how its names end, and never which zone it is. The texts that it may
- * include are handed in as to fuzsbanel_zone_check, which says of the same bytes where a text is refused. Refuses as
- * fuzsbanel_zone does, with 26, and with 25 for a zone of another class than IN; the handle then holds what it held. */
+ * include are handed in as to fuzsbanel_zone_check, and the fault of a text that is refused is told as that tells it:
+ * `*fault`, `name` and `words`. Refuses as fuzsbanel_zone does, with 26, and with 25 for a zone of another class than
+ * IN; the handle then holds what it held. */
 int64_t fuzsbanel_zone_open(const uint8_t *origin, size_t origin_len, const uint8_t *text, size_t text_len,
                             const struct fuzsbanel_included *included, size_t included_len, const uint8_t *bytes,
-                            size_t bytes_len, struct fuzsbanel_zone_handle *handle);
+                            size_t bytes_len, struct fuzsbanel_zone_handle *handle, uint8_t *name, size_t name_cap,
+                            uint8_t *words, size_t words_cap, struct fuzsbanel_fault *fault);
 
 /* Carries out an update message in the zone, and answers the code of RFC 2136, 2.2: 0 is NoError, and the update is
  * carried out (RFC 2136, 3). With any other code, and where it refuses, each record stays as it was. `*is_changed` is

@@ -22,6 +22,20 @@ static const char hosts[] = NAME "ns 60 A 192.0.2.1\n";
 static const struct fuzsbanel_included included[] = {{sizeof NAME - 1, sizeof hosts - sizeof NAME}};
 #define INCLUDED included, 1, TEXT(hosts)
 
+/* Opens the handle at a text, or tells why not. */
+static int64_t open_at(struct fuzsbanel_zone_handle *zone, const char *text)
+{
+    uint8_t name[64], words[128];
+    struct fuzsbanel_fault fault;
+    int64_t answer = fuzsbanel_zone_open(TEXT(ORIGIN), TEXT(text), INCLUDED, zone, name, sizeof name, words,
+                                         sizeof words, &fault);
+    size_t len = fault.words_len < sizeof words ? fault.words_len : sizeof words;
+    if (answer < 0)
+        printf("refused %" PRId64 ": line %zu, column %zu: %.*s\n", -answer, fault.line, fault.column, (int)len,
+               (const char *)words);
+    return answer;
+}
+
 /* Carries out an update of so many bytes, or tells why there is none. */
 static void update(struct fuzsbanel_zone_handle *zone, const uint8_t *bytes, int64_t len)
 {
@@ -75,7 +89,7 @@ int main(void)
     uint8_t bytes[512] = {0};
     size_t needed;
     update(&zone, bytes, 0); /* a closed handle */
-    if (fuzsbanel_zone_open(TEXT(ORIGIN), TEXT(first_zone), INCLUDED, &zone) != 0)
+    if (open_at(&zone, first_zone) != 0)
         return 1;
     const char *www = "www 300 A 192.0.2.2\n";
     for (int i = 0; i < 2; i++) /* the second finds the set */
@@ -87,7 +101,7 @@ int main(void)
            fuzsbanel_delete_rrset(3, TEXT(ORIGIN), TEXT("ns"), TYPE_A, false, bytes, sizeof bytes, &needed));
     update(&zone, bytes, 11); /* cut off within its header */
     /* refused: the handle holds what it held */
-    if (fuzsbanel_zone_open(TEXT(ORIGIN), TEXT("www 300 A"), INCLUDED, &zone) >= 0)
+    if (open_at(&zone, "www 300 A") >= 0)
         return 1;
     /* www.example., an address: the answer to what a client sends in a datagram */
     static const uint8_t query[] = "\0\x09\1\0\0\1\0\0\0\0\0\0\3www\7example\0\0\1\0\1";
@@ -111,7 +125,7 @@ int main(void)
     printf("%s\n", strstr(kept, "ftp") ? "shared with its changes" : "shared as it was");
     free(kept);
     fuzsbanel_zone_close(&reader);
-    int64_t opened = fuzsbanel_zone_open(TEXT(ORIGIN), TEXT(text), INCLUDED, &zone); /* what it held is freed */
+    int64_t opened = open_at(&zone, text); /* what it held is freed */
     char *again = opened == 0 ? text_of(&zone) : NULL;
     printf("%s\n", again && strcmp(text, again) == 0 ? "the same again" : "another zone");
     free(text);

@@ -70,11 +70,19 @@ static int64_t text_of(struct fuzsbanel_zone_handle *zone)
     return fuzsbanel_zone_text(zone, (uint8_t *)shown, sizeof shown - 1, &needed);
 }
 
+static int64_t open_at(struct fuzsbanel_zone_handle *zone, const char *text)
+{
+    uint8_t name[64], words[128];
+    struct fuzsbanel_fault fault;
+    return fuzsbanel_zone_open(TEXT(ORIGIN), TEXT(text), INCLUDED, zone, name, sizeof name, words, sizeof words,
+                               &fault);
+}
+
 static int64_t made(enum call call, int i, struct fuzsbanel_zone_handle *zone, struct fuzsbanel_zone_handle *other)
 {
     switch (call) {
     case OPEN:
-        return fuzsbanel_zone_open(TEXT(ORIGIN), TEXT(other_zone), INCLUDED, zone);
+        return open_at(zone, other_zone);
     case UPDATE:
     case UPDATE_SHARED: {
         bool is_changed;
@@ -101,7 +109,7 @@ static long refused_in_turn(const char *what, enum call call, int i)
     for (long count = 0;; count++) {
         struct fuzsbanel_zone_handle zone = {0}, other = {0};
         growths = -1;
-        if (fuzsbanel_zone_open(TEXT(ORIGIN), TEXT(first_zone), INCLUDED, &zone) != 0 || text_of(&zone) < 0)
+        if (open_at(&zone, first_zone) != 0 || text_of(&zone) < 0)
             exit(1);
         strcpy(before, shown);
         bool is_shared = call == UPDATE_SHARED || call == RAISE_SHARED;

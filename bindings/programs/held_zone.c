@@ -34,9 +34,9 @@ bool first_answer(const uint8_t *message, size_t len, struct fuzsbanel_record *r
 }
 
 /* Stops the server for a zone that was refused, with the place of the fault if it has one. */
-static _Noreturn void stop_for(const char *path, const char *origin, struct zone_files *files, int64_t answer)
+static _Noreturn void stop_for(const char *path, const struct zone_files *files, int64_t answer)
 {
-    if (zone_files_check(files, origin) >= 0 || files->fault.line == 0)
+    if (files->fault.line == 0)
         stop("%s: refused with %" PRId64, path, -answer);
     stop("%s: line %zu, column %zu: %s", *files->name ? files->name : path, files->fault.line, files->fault.column,
          files->words);
@@ -47,9 +47,8 @@ static int64_t open_zone(struct held_zone *held, struct zone_files *files)
 {
     int64_t answer;
     do
-        answer = fuzsbanel_zone_open(TEXT(held->origin), files->text, files->len, files->included, files->count,
-                                     files->bytes, files->bytes_len, &held->zone);
-    while (answer == -FUZSBANEL_NO_INCLUDE && zone_files_check(files, held->origin) == answer && zone_files_add(files));
+        answer = zone_files_open(files, held->origin, &held->zone);
+    while (answer == -FUZSBANEL_NO_INCLUDE && zone_files_add(files));
     return answer;
 }
 
@@ -112,7 +111,7 @@ void held_open(struct held_zone *held, const char *path, const char *origin, con
         answer = open_zone(held, &files);
     }
     if (answer < 0)
-        stop_for(path, origin, &files, answer);
+        stop_for(path, &files, answer);
     if (!find_serial(held))
         stop("%s: the zone has no SOA", path);
     sha256_begin(&hash);

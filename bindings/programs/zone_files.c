@@ -59,7 +59,8 @@ bool zone_files_read(struct zone_files *files, const char *path)
     return has_memory && add_file(path, &files->text, &files->len);
 }
 
-int64_t zone_files_check(struct zone_files *files, const char *origin)
+/* What one of the two calls answers, made again until all that it tells has room. */
+static int64_t told(struct zone_files *files, const char *origin, struct fuzsbanel_zone_handle *handle)
 {
     size_t name_cap = 0, words_cap = 0;
     for (;;) {
@@ -72,10 +73,15 @@ int64_t zone_files_check(struct zone_files *files, const char *origin)
             files->fault = (struct fuzsbanel_fault){0};
             return -FUZSBANEL_MEMORY;
         }
-        int64_t answer = fuzsbanel_zone_check((const uint8_t *)origin, strlen(origin), files->text, files->len,
-                                              files->included, files->count, files->bytes, files->bytes_len,
-                                              (uint8_t *)files->name, name_cap, (uint8_t *)files->words, words_cap,
-                                              &files->fault);
+        const uint8_t *zone = (const uint8_t *)origin;
+        uint8_t *told_name = name, *told_words = words;
+        int64_t answer =
+            handle ? fuzsbanel_zone_open(zone, strlen(origin), files->text, files->len, files->included, files->count,
+                                         files->bytes, files->bytes_len, handle, told_name, name_cap, told_words,
+                                         words_cap, &files->fault)
+                   : fuzsbanel_zone_check(zone, strlen(origin), files->text, files->len, files->included, files->count,
+                                          files->bytes, files->bytes_len, told_name, name_cap, told_words, words_cap,
+                                          &files->fault);
         if (files->fault.name_len <= name_cap && files->fault.words_len <= words_cap) {
             files->name[files->fault.name_len] = files->words[files->fault.words_len] = 0;
             return answer;
@@ -83,6 +89,16 @@ int64_t zone_files_check(struct zone_files *files, const char *origin)
         name_cap = files->fault.name_len;
         words_cap = files->fault.words_len;
     }
+}
+
+int64_t zone_files_check(struct zone_files *files, const char *origin)
+{
+    return told(files, origin, NULL);
+}
+
+int64_t zone_files_open(struct zone_files *files, const char *origin, struct fuzsbanel_zone_handle *handle)
+{
+    return told(files, origin, handle);
 }
 
 bool zone_files_add(struct zone_files *files)

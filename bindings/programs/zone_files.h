@@ -12,7 +12,7 @@ struct zone_files {
     size_t count;
     uint8_t *bytes; /* of those that are included, each after its name */
     size_t bytes_len;
-    struct fuzsbanel_fault fault; /* what the last check found, and the name of its text and its words */
+    struct fuzsbanel_fault fault; /* what was told last, and the name of its text and its words */
     char *name, *words;
 };
 
@@ -22,7 +22,10 @@ bool zone_files_read(struct zone_files *files, const char *path);
 /* What fuzsbanel_zone_check answers; name and words end in a zero byte. */
 int64_t zone_files_check(struct zone_files *files, const char *origin);
 
-/* Reads the file that the last check asked for, which answered FUZSBANEL_NO_INCLUDE; false where it can't be read. */
+/* The same of fuzsbanel_zone_open. */
+int64_t zone_files_open(struct zone_files *files, const char *origin, struct fuzsbanel_zone_handle *handle);
+
+/* Reads the file that the last of these asked for, which answered FUZSBANEL_NO_INCLUDE; false where it can't be read. */
 bool zone_files_add(struct zone_files *files);
 
 void zone_files_free(struct zone_files *files);

@@ -57,7 +57,10 @@ int main(int argc, char **argv)
     if (!text || fread(text, 1, len, file) != len)
         return 2;
     fclose(file);
-    int64_t sum = fuzsbanel_zone_open((const uint8_t *)ORIGIN, strlen(ORIGIN), text, len, none, 0, text, 0, &zone);
+    struct fuzsbanel_fault fault;
+    uint8_t words[1];
+    int64_t sum = fuzsbanel_zone_open((const uint8_t *)ORIGIN, strlen(ORIGIN), text, len, none, 0, text, 0, &zone,
+                                      words, 0, words, 0, &fault);
     size_t count = read_messages();
     bool is_update = strcmp(argv[1], "update") == 0;
     for (long times = atol(argv[2]); times > 0; times--)

@@ -162,7 +162,7 @@ CALLS = {
     "zone": TEXT + TEXT + OUT,
     "zone_check": TEXT + TEXT + INCLUDED + ROOM * 2 + [ctypes.POINTER(FaultFields)],
     "apply": BYTES + TEXT + TEXT + OUT,
-    "zone_open": TEXT + TEXT + INCLUDED + HANDLE,
+    "zone_open": TEXT + TEXT + INCLUDED + HANDLE + ROOM * 2 + [ctypes.POINTER(FaultFields)],
     "zone_update": HANDLE + BYTES + [ctypes.POINTER(ctypes.c_bool)],
     "zone_text": HANDLE + OUT,
     "zone_answer": HANDLE + BYTES + U16 + [ctypes.c_bool] + OUT,

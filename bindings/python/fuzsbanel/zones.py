@@ -1,7 +1,6 @@
 """Zone text, and zones that are held."""
 import ctypes
 import threading
-from contextlib import suppress
 from types import MappingProxyType
 from typing import Iterator, Mapping, NamedTuple, Optional
 
@@ -40,6 +39,24 @@ def crossing(included: Mapping[str, str]) -> list:
     return [lengths, len(pieces), b"".join(name_ + text_ for name_, text_ in pieces)]
 
 
+def refusal_of(call: str, *given: object) -> Optional[Refusal]:
+    """The refusal of a call that tells where zone text is refused, with its fault; none where it answers."""
+    found, room = FaultFields(), 256
+    while True:
+        name_, words = ctypes.create_string_buffer(room + 1), ctypes.create_string_buffer(room + 1)
+        try:
+            asked(call, *given, name_, room, words, room, ctypes.byref(found))
+            return None
+        except Refusal as refusal:
+            if not found.line:
+                return refusal
+            if max(found.name_len, found.words_len) <= room:
+                told = name_.raw[:found.name_len].decode(), words.raw[:found.words_len].decode()
+                refusal.fault = Fault(refusal.number, told[0], found.line, found.column, told[1])
+                return refusal
+        room = max(found.name_len, found.words_len)
+
+
 def zone_check(origin: str, zone_text: str, included: Mapping[str, str] = MappingProxyType({})) -> Optional[Fault]:
     """The first fault of a zone's text, if it has one; `included` are the texts that it may include, by their names.
 
@@ -52,20 +69,10 @@ def zone_check(origin: str, zone_text: str, included: Mapping[str, str] = Mappin
     ...
     fuzsbanel.Refusal: 23: items that are no data, name or TTL
     """
-    found, room, held = FaultFields(), 256, crossing(included)
-    while True:
-        name_, words = ctypes.create_string_buffer(room + 1), ctypes.create_string_buffer(room + 1)
-        try:
-            asked("zone_check", origin, zone_text, *held, name_, room, words, room, ctypes.byref(found))
-            return None
-        except Refusal as refusal:
-            if not found.line:
-                raise
-            number_ = refusal.number
-        if max(found.name_len, found.words_len) <= room:
-            told = name_.raw[:found.name_len].decode(), found.line, found.column, words.raw[:found.words_len].decode()
-            return Fault(number_, *told)
-        room = max(found.name_len, found.words_len)
+    refusal = refusal_of("zone_check", origin, zone_text, *crossing(included))
+    if refusal and not refusal.fault:
+        raise refusal
+    return refusal.fault if refusal else None
 
 
 def apply(update: bytes, origin: str, zone_text: str) -> str:
@@ -121,12 +128,9 @@ class Zone:
 
     def __init__(self, origin: str, zone_text: str, included: Mapping[str, str] = MappingProxyType({})) -> None:
         self._handle, self._lock = ZoneHandle(), threading.Lock()
-        try:
-            asked("zone_open", origin, zone_text, *crossing(included), ctypes.byref(self._handle))
-        except Refusal as refusal:
-            with suppress(Refusal):
-                refusal.fault = zone_check(origin, zone_text, included)
-            raise
+        refusal = refusal_of("zone_open", origin, zone_text, *crossing(included), ctypes.byref(self._handle))
+        if refusal:
+            raise refusal
 
     def update(self, update: bytes) -> Applied:
         """Carries out an update message, and answers the server's code and whether anything changed: with 0, NoError, the update

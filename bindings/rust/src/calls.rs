@@ -230,6 +230,11 @@ extern "C" {
         bytes: *const u8,
         bytes_len: usize,
         handle: *mut ZoneHandle,
+        name: *mut u8,
+        name_cap: usize,
+        words: *mut u8,
+        words_cap: usize,
+        fault: *mut FaultFound,
     ) -> i64;
     pub fn fuzsbanel_zone_update(
         handle: *mut ZoneHandle,

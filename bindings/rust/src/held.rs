@@ -2,6 +2,7 @@
 
 use crate::calls::{self, filled, TransferPlace, ZoneHandle};
 use crate::error::Error;
+use crate::{told, ZoneError};
 use std::fmt;
 use std::ptr;
 
@@ -59,33 +60,41 @@ impl Zone {
     /// let hosts = ("hosts", "www 300 A 192.0.2.1\n");
     /// let mut zone = fuzsbanel::Zone::open("example.", "$INCLUDE hosts\n", &[hosts])?;
     /// assert!(zone.text()?.ends_with("www.example. 300 IN A 192.0.2.1\n"));
+    /// let refused = fuzsbanel::Zone::open("example.", "\nwww 300 A 192.0.2", &[]).err();
+    /// assert_eq!(refused.unwrap().to_string(), "line 2, column 9: invalid data for type A");
     /// # Ok::<(), fuzsbanel::Error>(())
     /// ```
     ///
     /// # Errors
     ///
-    /// The text's first fault, of which [`zone_check`](crate::zone_check) says where it stands; [`Error::NoOrigin`] for an
-    /// empty origin, [`Error::NotOnWire`] for a relative name in data, and [`Error::Class`] for a zone of another class
-    /// than IN.
-    pub fn open(origin: &str, text: &str, included: &[(&str, &str)]) -> Result<Zone, Error> {
-        let mut handle = closed();
+    /// The text's first fault, with its place; [`Error::NoOrigin`] for an empty origin, [`Error::NotOnWire`] for a relative
+    /// name in data, and [`Error::Class`] for a zone of another class than IN.
+    pub fn open(origin: &str, text: &str, included: &[(&str, &str)]) -> Result<Zone, ZoneError> {
+        // it begins closed, and a call that is refused leaves it so
+        let mut zone = Zone { handle: closed() };
         let (lengths, bytes) = calls::crossing(included);
-        // SAFETY: the handle begins closed, and the texts are borrowed for the call.
-        let answer = unsafe {
-            calls::fuzsbanel_zone_open(
-                origin.as_ptr(),
-                origin.len(),
-                text.as_ptr(),
-                text.len(),
-                lengths.as_ptr(),
-                lengths.len(),
-                bytes.as_ptr(),
-                bytes.len(),
-                &mut handle,
-            )
-        };
-        calls::length(answer)?;
-        Ok(Zone { handle })
+        told(|name, words, found| {
+            // SAFETY: the handle is of this value alone; the texts, the buffers and what is found are borrowed for the call.
+            unsafe {
+                calls::fuzsbanel_zone_open(
+                    origin.as_ptr(),
+                    origin.len(),
+                    text.as_ptr(),
+                    text.len(),
+                    lengths.as_ptr(),
+                    lengths.len(),
+                    bytes.as_ptr(),
+                    bytes.len(),
+                    &mut zone.handle,
+                    name.as_mut_ptr(),
+                    name.len(),
+                    words.as_mut_ptr(),
+                    words.len(),
+                    found,
+                )
+            }
+        })?;
+        Ok(zone)
     }
 
     /// Carries out an update message, and answers the server's code and whether anything changed: with 0, NoError, the

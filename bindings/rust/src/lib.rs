@@ -38,6 +38,7 @@ pub use walk::{
 pub use wire_form::{data_wire, name_wire, wire_text};
 
 use calls::filled;
+use std::fmt;
 
 /// How many bytes the message takes that the bytes begin with (RFC 1035, 4.1).
 ///
@@ -114,6 +115,38 @@ pub struct Fault {
     pub words: String,
 }
 
+/// Why a zone isn't opened.
+#[derive(Clone, Debug, PartialEq, Eq)]
+pub struct ZoneError {
+    /// The refusal.
+    pub error: Error,
+    /// The fault of the zone's text, where that is refused.
+    pub fault: Option<Fault>,
+}
+
+impl fmt::Display for ZoneError {
+    fn fmt(&self, f: &mut fmt::Formatter<'_>) -> fmt::Result {
+        let Some(fault) = &self.fault else {
+            return self.error.fmt(f);
+        };
+        let of_text = if fault.name.is_empty() { "" } else { " of " };
+        let (line, column) = (fault.line, fault.column);
+        write!(
+            f,
+            "line {line}, column {column}{of_text}{}: {}",
+            fault.name, fault.words
+        )
+    }
+}
+
+impl std::error::Error for ZoneError {}
+
+impl From<ZoneError> for Error {
+    fn from(e: ZoneError) -> Error {
+        e.error
+    }
+}
+
 /// The first fault of a zone's text, if it has one. An empty `origin` is none; `included` are the texts that may be
 /// included, each after its name.
 ///
@@ -126,11 +159,9 @@ pub fn zone_check(
     included: &[(&str, &str)],
 ) -> Result<Option<Fault>, Error> {
     let (lengths, bytes) = calls::crossing(included);
-    let (mut name, mut words) = (Vec::new(), Vec::new());
-    let mut found = calls::FaultFound::default();
-    loop {
+    let told = told(|name, words, found| {
         // SAFETY: as in `cut`; the buffers and what is found are borrowed for the call.
-        let answer = unsafe {
+        unsafe {
             calls::fuzsbanel_zone_check(
                 origin.as_ptr(),
                 origin.len(),
@@ -144,22 +175,47 @@ pub fn zone_check(
                 name.len(),
                 words.as_mut_ptr(),
                 words.len(),
-                &mut found,
+                found,
             )
+        }
+    });
+    match told {
+        Ok(()) => Ok(None),
+        Err(ZoneError {
+            fault: Some(fault), ..
+        }) => Ok(Some(fault)),
+        Err(ZoneError { error, .. }) => Err(error),
+    }
+}
+
+/// What a call tells that says where zone text is refused, made again until its name and words have room.
+pub(crate) fn told(
+    mut call: impl FnMut(&mut [u8], &mut [u8], &mut calls::FaultFound) -> i64,
+) -> Result<(), ZoneError> {
+    let (mut name, mut words) = (Vec::new(), Vec::new());
+    let mut found = calls::FaultFound::default();
+    loop {
+        let answer = call(&mut name, &mut words, &mut found);
+        let Err(error) = calls::length(answer) else {
+            return Ok(());
         };
         if found.line == 0 {
-            return calls::length(answer).map(|_| None);
+            return Err(ZoneError { error, fault: None });
         }
         if found.name_len <= name.len() && found.words_len <= words.len() {
             name.truncate(found.name_len);
             words.truncate(found.words_len);
-            return Ok(Some(Fault {
-                error: Error::of(u8::try_from(-answer).unwrap_or(0)),
-                name: calls::text(name)?,
+            let fault = Fault {
+                error,
+                name: String::from_utf8_lossy(&name).into_owned(),
                 line: found.line,
                 column: found.column,
-                words: calls::text(words)?,
-            }));
+                words: String::from_utf8_lossy(&words).into_owned(),
+            };
+            return Err(ZoneError {
+                error,
+                fault: Some(fault),
+            });
         }
         name = vec![0; found.name_len];
         words = vec![0; found.words_len];

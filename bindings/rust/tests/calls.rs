@@ -131,8 +131,16 @@ fn a_zone_is_held() {
     assert_eq!(applied, format!("NoError\n{text}"));
     let moved = std::thread::spawn(move || zone.text());
     assert_eq!(moved.join().unwrap(), Ok(text));
-    let refused = fuzsbanel::Zone::open("", ZONE, &[]).err();
-    assert_eq!(refused, Some(Error::NoOrigin));
+    let refused = fuzsbanel::Zone::open("", ZONE, &[]).unwrap_err();
+    assert_eq!((refused.error, refused.fault), (Error::NoOrigin, None));
+    let included = [("hosts", "\nwww 300 A 192.0.2")];
+    let refused = fuzsbanel::Zone::open("example.", "$INCLUDE hosts\n", &included).unwrap_err();
+    let fault = fuzsbanel::zone_check("example.", "$INCLUDE hosts\n", &included).unwrap();
+    assert_eq!((refused.error, &refused.fault), (Error::BadText, &fault));
+    assert_eq!(
+        refused.to_string(),
+        "line 2, column 9 of hosts: invalid data for type A"
+    );
 }
 
 #[test]

@@ -1,5 +1,5 @@
 -- What the check of zone text is asked for: whether the text is refused, for what, and where.
-use Rattle.std.specs.Prelude.{◌≡◌, ◌++◌, ℕ, ℤ, List, [], ◌∷◌, drop, length, neg_ℤ, pos, take, true}
+use Rattle.std.specs.Prelude.{◌≡◌, ◌⊎◌, ◌++◌, ℕ, ℤ, List, [], ◌∷◌, drop, length, neg_ℤ, pos, take, true}
 use Rattle.std.specs.Prelude.{Option, Some, None, Result, Ok, Err}
 use Rattle.std.specs.String.{string_bytes}
 use Rattle.txt.specs.Places.{Position}
@@ -73,13 +73,30 @@ pub record IsToldAt (fault : ToldFault) (old_name new_name old_words new_words :
     words_len = length words;
   }
 
--- what the caller is told: 0 of a text without a fault, else minus the number of the refusal
+-- the fault that was found is told, if there is one
+abbrev pub IsTold : Asked (Option ToldFault) → List ℕ → List ℕ → List ℕ → List ℕ → FaultFound → Type 0
+IsTold (Ok (Some fault)) old_name new_name old_words new_words found =
+    IsToldAt fault old_name new_name old_words new_words found
+IsTold other old_name new_name old_words new_words found =
+    IsNotTold old_name new_name old_words new_words found
+
+-- what is answered: 0 of a text without a fault, else minus the number of the refusal
+abbrev pub check_answer : Asked (Option ToldFault) → ℤ
+check_answer (Ok None) = pos 0
+check_answer (Ok (Some fault)) = neg_ℤ (pos fault.number)
+check_answer (Err number) = neg_ℤ (pos number)
+
+-- both of a check
 abbrev pub IsChecked : Asked (Option ToldFault) → List ℕ → List ℕ → List ℕ → List ℕ → FaultFound → ℤ
     → Type 0
-IsChecked (Ok None) old_name new_name old_words new_words found result =
-    IsNotTold old_name new_name old_words new_words found × (result ≡ pos 0)
-IsChecked (Ok (Some fault)) old_name new_name old_words new_words found result =
-    IsToldAt fault old_name new_name old_words new_words found
-    × (result ≡ neg_ℤ (pos fault.number))
-IsChecked (Err number) old_name new_name old_words new_words found result =
-    IsNotTold old_name new_name old_words new_words found × (result ≡ neg_ℤ (pos number))
+IsChecked asked old_name new_name old_words new_words found result =
+    IsTold asked old_name new_name old_words new_words found × (result ≡ check_answer asked)
+
+-- Where 0 is answered, nothing is told, and nothing where memory ran out. Of any other answer it is what the check of
+-- the same text tells.
+abbrev pub IsToldOf : Asked (Option ToldFault) → List ℕ → List ℕ → List ℕ → List ℕ → FaultFound → ℤ
+    → Type 0
+IsToldOf asked old_name new_name old_words new_words found result =
+    ((result ≡ pos 0) ⊎ (result ≡ neg_ℤ (pos 3)))
+    × IsNotTold old_name new_name old_words new_words found
+    ⊎ IsTold asked old_name new_name old_words new_words found

@@ -8,6 +8,9 @@ use crate::refusal::Refusal;
 /// What is answered where the caller's buffer has no room.
 pub const NO_ROOM: i64 = -100;
 
+/// What is answered where memory ran out.
+pub const NO_MEMORY: i64 = -3;
+
 /// Copies what was made into the caller's buffer, if it has room, and says how many bytes that takes.
 pub fn give(made: Result<Vec<u8>, Refusal>, out: &mut [u8], needed: &mut usize) -> i64
     ensures { IsLeft (bytes_made made) out.old out.new needed.new result }

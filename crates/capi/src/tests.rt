@@ -20,6 +20,10 @@ use crate::walk::{
     OptionFound, QueryFound, RecordFound, fuzsbanel_data_text, fuzsbanel_name, fuzsbanel_option,
     fuzsbanel_query, fuzsbanel_record,
 };
+use crate::zone_check::FaultFound;
+use crate::zone_handle::fuzsbanel_zone_open;
+use crate::zone_handle::handle::ZoneHandle;
+use std::alloc::Global;
 
 /// A response with the address of `www.example.com`.
 const RESPONSE: &[u8] =
@@ -49,6 +53,22 @@ const NO_ITEM: Item = Item {
     name_len: 0,
     section: 9,
 };
+
+/// Opens a handle at a zone whose text includes no other, and answers what that does.
+fn open(alloc: Global, origin: &[u8], text: &[u8], handle: &mut ZoneHandle) -> i64 {
+    let mut found = FaultFound::NONE;
+    fuzsbanel_zone_open(
+        alloc,
+        origin,
+        text,
+        &[],
+        &[],
+        handle,
+        &mut [],
+        &mut [],
+        &mut found,
+    )
+}
 
 #[test]
 fn messages_are_checked(rt: HostRuntime) {

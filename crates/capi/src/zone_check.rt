@@ -30,6 +30,16 @@ pub struct FaultFound {
     pub words_len: usize,
 }
 
+impl FaultFound {
+    /// No fault is told.
+    pub const NONE: FaultFound = FaultFound {
+        line: 0,
+        column: 0,
+        name_len: 0,
+        words_len: 0,
+    };
+}
+
 /// A fault of zone text, as callers are told it.
 #[derive(Drop)]
 struct Told {
@@ -67,12 +77,7 @@ pub extern "C" fn fuzsbanel_zone_check(
         name.old name.new words.old words.new found.new result
         ⊎ IsChecked (Err 3) name.old name.new words.old words.new found.new result }
 {
-    *found = FaultFound {
-        line: 0,
-        column: 0,
-        name_len: 0,
-        words_len: 0,
-    };
+    *found = FaultFound::NONE;
     match check(alloc, origin, text, included, included_bytes) {
         Ok(None) => 0,
         Ok(Some(told)) => {

@@ -8,6 +8,7 @@ ghost use Rattle.std.specs.Option.{option_map};
 ghost use Rattle.std.specs.Prelude.{◌≡◌, ◌≢◌, None, Some, false, neg_ℤ, pos};
 ghost use Rattle.capi.specs.Answer.{IsAnswered, IsAnsweredBy, Makes, MakesBy};
 ghost use Rattle.capi.specs.Holding.{EndsAlone, IsAlone, zone_held, zone_in};
+ghost use Rattle.capi.specs.ZoneCheck.{IsToldOf, zone_checked};
 ghost use Rattle.capi.specs.ZoneHandle.{answer_asked, answer_of, carrier, IsHeldText, IsOpenAt, IsOpened, IsRaisedIn, IsRaisingHeld, IsSharing, IsTextOf, IsUpdated, IsUpdating, Opens};
 
 pub mod handle;
@@ -17,13 +18,14 @@ mod loose;
 pub mod place;
 pub mod transfer;
 
-use crate::answer::{give, number, refusal_code};
+use crate::answer::{NO_MEMORY, give, number, refusal_code};
 use crate::applied::has_two_anames;
 use crate::fits::fits_wire;
 use crate::included::Included;
 use crate::message::message_of;
 use crate::refusal::Refusal;
 use crate::zone::zone_asked;
+use crate::zone_check::{FaultFound, fuzsbanel_zone_check};
 use authority::{Carrier, respond};
 use base::{DNSClass, RecordType, RrKey};
 use handle::ZoneHandle;
@@ -37,7 +39,8 @@ use std::mem;
 
 /// Opens a handle at the zone of an origin, whose records are those of a text, and answers 0. What the handle held
 /// before is freed. The text is read as `fuzsbanel_apply` reads one: an `$ORIGIN` of it is that of names, and never of
-/// the zone. The texts that it may include are handed in as `fuzsbanel_zone_check` takes them.
+/// the zone. The texts that it may include are handed in as `fuzsbanel_zone_check` takes them, and what that says of the
+/// text, of its fault the place and the words, is told of a text that is refused.
 ///
 /// # Errors
 ///
@@ -51,13 +54,36 @@ pub extern "C" fn fuzsbanel_zone_open(
     included: &[Included],
     included_bytes: &[u8],
     handle: &mut ZoneHandle,
+    name: &mut [u8],
+    words: &mut [u8],
+    found: &mut FaultFound,
 ) -> i64
-    ensures { IsOpened origin.now text.now included.now included_bytes.now handle.old.zone
+    ensures opened { IsOpened origin.now text.now included.now included_bytes.now handle.old.zone
         handle.new.zone result }
+    ensures told { IsToldOf (zone_checked origin.now text.now included.now included_bytes.now)
+        name.old name.new words.old words.new found.new result }
 {
     match zone_of(alloc, origin, text, included, included_bytes) {
-        Ok(zone) => open_at(alloc, handle, Holding::Own(zone)),
-        Err(refusal) => number(Err(refusal)),
+        Ok(zone) => {
+            *found = FaultFound::NONE;
+            open_at(alloc, handle, Holding::Own(zone))
+        }
+        Err(refusal) => {
+            let checked = fuzsbanel_zone_check(
+                alloc,
+                origin,
+                text,
+                included,
+                included_bytes,
+                name,
+                words,
+                found,
+            );
+            if checked == NO_MEMORY {
+                return NO_MEMORY;
+            }
+            number(Err(refusal))
+        }
     }
 }
 

@@ -7,6 +7,7 @@ use Rattle.std.specs.Int.{w32, to_be_bytes}
 use Rattle.std.specs.List.{AllPairs, slice_range}
 use Rattle.std.specs.declared.alloc.Global.{Global}
 use Rattle.base.specs.Keys.{indexed_at}
+use Rattle.base.specs.declared.wire.suffix_table.TheConstants.{MARK_SHIFT, OF_THE_END, SPREAD}
 use Rattle.base.specs.declared.wire.suffix_table.first.Entry.{Entry}
 use Rattle.base.specs.names.Labels.{wire_of, labels_of, IsLabelRun, IsWire}
 use Rattle.base.specs.writing.State.{Stored, front_number}
@@ -35,7 +36,7 @@ pub record IsEntry (text : List ℕ) (e : Entry) : Type 0 where
 -- a number of the first eight bytes, of the last eight, and of how many there are
 abbrev pub key_number : List ℕ → ℕ
 key_number bytes =
-    ((front_number bytes + (front_number (drop (length bytes - 8) bytes) * 31) % 2 ^ 32) % 2 ^ 32 + length bytes) % 2 ^ 32
+    ((front_number bytes + (front_number (drop (length bytes - 8) bytes) * OF_THE_END) % 2 ^ 32) % 2 ^ 32 + length bytes) % 2 ^ 32
 
 -- the key of a suffix of these bytes: their number, the highest byte first, and all of them
 abbrev pub index_key : List ℕ → List ℕ
@@ -43,7 +44,7 @@ index_key bytes = to_be_bytes w32 (key_number bytes) ++ bytes
 
 -- the mark of a suffix of these bytes: the highest bits of a product of their number, for which all its bits count
 abbrev pub mark_of : List ℕ → ℕ
-mark_of bytes = ((key_number bytes * 2654435761) % 2 ^ 32) / 2 ^ 17
+mark_of bytes = ((key_number bytes * SPREAD) % 2 ^ 32) / 2 ^ MARK_SHIFT
 
 -- each suffix has its mark
 abbrev pub AreMarked : List ℕ → List Stored → Type 0

@@ -1,7 +1,6 @@
 //! Suffixes of names that were written.
 
-ghost use Rattle.base.specs.declared.limits.TheConstants.{POINTER_LIMIT};
-ghost use Rattle.std.specs.Prelude.{◌≡◌, ◌<◌, ◌↔◌, IfOk, IsTrue};
+ghost use Rattle.std.specs.Prelude.{◌≡◌, ◌↔◌, IfOk, IsTrue};
 ghost use Rattle.base.specs.names.Labels.{IsLabelRun, wire_of, labels_of, IsWire};
 ghost use Rattle.base.specs.writing.State.{front_number};
 
@@ -49,8 +48,6 @@ impl Suffix {
     /// The suffix of these labels, each with its length before it, at an offset.
     pub(crate) fn new(alloc: Global, wire: &[u8], offset: u16) -> Result<Suffix, AllocError>
         requires wire { IsWire wire.now }
-        // A pointer can name the offset.
-        requires near { offset < POINTER_LIMIT }
         ensures { IfOk result (λ suffix. suffix
             ≡ record { labels = labels_of wire.now; offset = offset }) }
     {

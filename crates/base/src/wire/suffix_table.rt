@@ -26,8 +26,18 @@ pub trait HasSuffixes {
 /// Room for the key of the longest suffix: a number of four bytes, and the labels of a name (RFC 1035, 2.3.4).
 const KEY: usize = 258;
 
-/// How many marks there are.
+/// How many marks there are: one for each number of the fifteen highest bits of a product.
 const MARKS: usize = 32_768;
+
+/// How far those bits stand above the lowest.
+const MARK_SHIFT: u32 = 17;
+
+/// An odd number near 2^32 divided by the golden ratio: all bits of a number count for the highest bits of its product
+/// with this one.
+const SPREAD: u32 = 0x9E37_79B1;
+
+/// What the number of the last bytes of labels is multiplied with, so that it isn't that of equal first bytes.
+const OF_THE_END: u32 = 31;
 
 /// A number of labels by which most are told from others, however long they are alike at the front or at the end: of
 /// their first eight bytes, of their last eight, and of how many there are.
@@ -37,7 +47,7 @@ fn key_number(wire: &[u8]) -> u32
 {
     let last = front_number(&wire[wire.len().saturating_sub(8)..]);
     front_number(wire)
-        .wrapping_add(last.wrapping_mul(31))
+        .wrapping_add(last.wrapping_mul(OF_THE_END))
         .wrapping_add(wire.len() as u32)
 }
 
@@ -47,7 +57,7 @@ fn mark_of(wire: &[u8]) -> usize
     ensures value { result ≡ mark_of wire.now }
     ensures below { result < MARKS }
 {
-    (key_number(wire).wrapping_mul(0x9E37_79B1) >> 17) as usize
+    (key_number(wire).wrapping_mul(SPREAD) >> MARK_SHIFT) as usize
 }
 
 /// Whether the mark of a suffix of these labels is set.

@@ -1,7 +1,9 @@
 //! A zone that is held: each export on it, over updates of RFC 2136.
 
+use super::open;
 use crate::included::Included;
 use crate::update::{fuzsbanel_create, fuzsbanel_delete_all};
+use crate::zone_check::FaultFound;
 use crate::zone_handle::handle::ZoneHandle;
 use crate::zone_handle::{
     free, fuzsbanel_zone_answer, fuzsbanel_zone_close, fuzsbanel_zone_open, fuzsbanel_zone_text,
@@ -32,7 +34,7 @@ fn a_closed_handle_says_so(rt: HostRuntime) {
 /// What opening a handle at these answers, which is closed again.
 fn opened(alloc: Global, origin: &[u8], text: &[u8]) -> i64 {
     let mut handle = ZoneHandle::closed();
-    let answer = fuzsbanel_zone_open(alloc, origin, text, &[], &[], &mut handle);
+    let answer = open(alloc, origin, text, &mut handle);
     fuzsbanel_zone_close(alloc, &mut handle);
     free(alloc, handle);
     answer
@@ -69,7 +71,7 @@ fn a_zone_answers(rt: HostRuntime) {
     let mut handle = ZoneHandle::closed();
     let mut out = [7; 64];
     let mut needed = 0;
-    let opened = fuzsbanel_zone_open(rt.alloc(), ORIGIN, SERVED, &[], &[], &mut handle);
+    let opened = open(rt.alloc(), ORIGIN, SERVED, &mut handle);
     // the received bytes, by a stream or in a datagram, and what is sent: nothing for a response, or for no header
     let rows: &[(&[u8], bool, &[u8])] = &[
         (QUERY, false, ANSWER),
@@ -115,12 +117,12 @@ fn a_zone_is_updated_where_it_is(rt: HostRuntime) {
     let mut handle = ZoneHandle::closed();
     let mut out = [0; 256];
     let mut needed = 0;
-    let opened = fuzsbanel_zone_open(rt.alloc(), ORIGIN, ZONE, &[], &[], &mut handle);
+    let opened = open(rt.alloc(), ORIGIN, ZONE, &mut handle);
     let len = fuzsbanel_create(rt.alloc(), 1, ORIGIN, WWW, false, &mut out, &mut needed);
     let first = code(rt.alloc(), &mut handle, &out, len);
     let again = code(rt.alloc(), &mut handle, &out, len);
     let cut = code(rt.alloc(), &mut handle, &out, 11);
-    let refused = fuzsbanel_zone_open(rt.alloc(), ORIGIN, b"www 300 A", &[], &[], &mut handle);
+    let refused = open(rt.alloc(), ORIGIN, b"www 300 A", &mut handle);
     let len = fuzsbanel_delete_all(rt.alloc(), 2, ORIGIN, b"ns", false, &mut out, &mut needed);
     let gone = code(rt.alloc(), &mut handle, &out, len);
     let mut small = [0; 78];
@@ -170,7 +172,7 @@ const NO_ZONE: &[u8] = b"\0\x01\x28\0\0\x01\0\0\0\0\0\0\x07example\0\0\x01\0\x01
 fn a_change_is_told(rt: HostRuntime) {
     let alloc = rt.alloc();
     let mut handle = ZoneHandle::closed();
-    let opened = fuzsbanel_zone_open(alloc, ORIGIN, ZONE, &[], &[], &mut handle);
+    let opened = open(alloc, ORIGIN, ZONE, &mut handle);
     let rows: &[(&[u8], i64, bool)] = &[
         (ADDED, 0, true),
         (ADDED, 0, false),
@@ -208,6 +210,48 @@ const INCLUDED: &[Included] = &[
 
 const BYTES: &[u8] = b"hosts\n$INCLUDE more\n\nmorewww 300 A 192.0.2.2\n";
 
+/// What opening a handle at a text with these to include answers, and what it tells.
+struct Opened {
+    answer: i64,
+    found: FaultFound,
+    name: [u8; 4],
+    words: [u8; 24],
+}
+
+/// Opens a handle at a text that may include these.
+fn opened_with(
+    alloc: Global,
+    text: &[u8],
+    included: &[Included],
+    handle: &mut ZoneHandle,
+) -> Opened {
+    let mut name = [b'-'; 4];
+    let mut words = [b'-'; 24];
+    let mut found = FaultFound {
+        line: 9,
+        column: 9,
+        name_len: 9,
+        words_len: 9,
+    };
+    let answer = fuzsbanel_zone_open(
+        alloc, ORIGIN, text, included, BYTES, handle, &mut name, &mut words, &mut found,
+    );
+    Opened {
+        answer,
+        found,
+        name,
+        words,
+    }
+}
+
+/// What is told of a text that includes others is told of its fault.
+fn tells(opened: &Opened, line: usize, column: usize, name: &[u8; 4], words: &[u8; 24]) -> bool {
+    opened.found.line == line
+        && opened.found.column == column
+        && opened.name == *name
+        && opened.words == *words
+}
+
 #[test]
 fn a_zone_includes_texts(rt: HostRuntime) {
     let alloc = rt.alloc();
@@ -215,14 +259,18 @@ fn a_zone_includes_texts(rt: HostRuntime) {
     let mut out = [7; 64];
     let mut needed = 0;
     let text = b"$INCLUDE hosts\n";
-    let none = fuzsbanel_zone_open(alloc, ORIGIN, text, &[], &[], &mut handle);
-    let one = fuzsbanel_zone_open(alloc, ORIGIN, text, &INCLUDED[..1], BYTES, &mut handle);
-    let opened = fuzsbanel_zone_open(alloc, ORIGIN, text, INCLUDED, BYTES, &mut handle);
+    let none = opened_with(alloc, text, &[], &mut handle);
+    let one = opened_with(alloc, text, &INCLUDED[..1], &mut handle);
+    let other = opened_with(alloc, b"\nwww 300 A", INCLUDED, &mut handle);
+    let opened = opened_with(alloc, text, INCLUDED, &mut handle);
     let written = fuzsbanel_zone_text(alloc, &mut handle, &mut out, &mut needed);
     fuzsbanel_zone_close(alloc, &mut handle);
     free(alloc, handle);
     let lines: &[u8] = b"$ORIGIN example.\nwww.example. 300 IN A 192.0.2.2\n";
     let are_lines = out.starts_with(lines);
-    assert!(rt; none == -20 && one == -20 && opened == 0);
+    assert!(rt; none.answer == -20 && tells(&none, 1, 10, b"----", b"no text named hosts to i"));
+    assert!(rt; one.answer == -20 && tells(&one, 1, 10, b"host", b"no text named more to in"));
+    assert!(rt; other.answer == -23 && tells(&other, 2, 9, b"----", b"invalid data for type A-"));
+    assert!(rt; opened.answer == 0 && tells(&opened, 0, 0, b"----", b"------------------------"));
     assert!(rt; written == lines.len() as i64 && are_lines);
 }

@@ -1,11 +1,12 @@
 //! Queries, zone checks and transfers over a name of 38 bytes, which takes memory of its own.
 
+use super::open;
 use crate::query::fuzsbanel_build_query;
 use crate::zone_check::{FaultFound, fuzsbanel_zone_check};
 use crate::zone_handle::handle::ZoneHandle;
 use crate::zone_handle::place::KeptPlace;
 use crate::zone_handle::transfer::fuzsbanel_zone_serve_transfer;
-use crate::zone_handle::{free, fuzsbanel_zone_close, fuzsbanel_zone_open};
+use crate::zone_handle::{free, fuzsbanel_zone_close};
 
 const ORIGIN: &[u8] = b"a-name-with-memory-of-its-own.example.";
 
@@ -80,7 +81,7 @@ fn a_transfer_goes_on_at_a_long_name(rt: HostRuntime) {
     };
     let mut out = [7; 128];
     let mut needed = 0;
-    let opened = fuzsbanel_zone_open(rt.alloc(), ORIGIN, ZONE, &[], &[], &mut handle);
+    let opened = open(rt.alloc(), ORIGIN, ZONE, &mut handle);
     let served = fuzsbanel_zone_serve_transfer(
         rt.alloc(),
         &mut handle,

@@ -1,10 +1,11 @@
 //! A zone that several handles hold.
 
+use super::open;
 use crate::update::fuzsbanel_create;
 use crate::zone_handle::handle::ZoneHandle;
 use crate::zone_handle::{
-    free, fuzsbanel_zone_close, fuzsbanel_zone_open, fuzsbanel_zone_raise_serial,
-    fuzsbanel_zone_share, fuzsbanel_zone_text, fuzsbanel_zone_update,
+    free, fuzsbanel_zone_close, fuzsbanel_zone_raise_serial, fuzsbanel_zone_share,
+    fuzsbanel_zone_text, fuzsbanel_zone_update,
 };
 use std::alloc::Global;
 
@@ -52,7 +53,7 @@ fn handles_share_a_zone(rt: HostRuntime) {
     let mut handle = ZoneHandle::closed();
     let mut other = ZoneHandle::closed();
     let closed = fuzsbanel_zone_share(alloc, &mut handle, &mut other);
-    let opened = fuzsbanel_zone_open(alloc, ORIGIN, ZONE, &[], &[], &mut handle);
+    let opened = open(alloc, ORIGIN, ZONE, &mut handle);
     assert!(rt; closed == -34 && opened == 0);
     // the second time the other is open
     let first = fuzsbanel_zone_share(alloc, &mut handle, &mut other);
@@ -80,7 +81,7 @@ fn a_serial_is_raised_in_a_copy(rt: HostRuntime) {
     let alloc = rt.alloc();
     let mut handle = ZoneHandle::closed();
     let mut other = ZoneHandle::closed();
-    let opened = fuzsbanel_zone_open(alloc, ORIGIN, ZONE, &[], &[], &mut handle);
+    let opened = open(alloc, ORIGIN, ZONE, &mut handle);
     let shared = fuzsbanel_zone_share(alloc, &mut handle, &mut other);
     let raised = fuzsbanel_zone_raise_serial(alloc, &mut handle);
     let is_kept = has_text(alloc, &mut other, FIRST);

@@ -1,11 +1,11 @@
 //! A zone that is held: its serial raised, and its transfers (RFC 2136, 3.6; RFC 5936, 2.2).
 
+use super::open;
 use crate::zone_handle::handle::ZoneHandle;
 use crate::zone_handle::place::KeptPlace;
 use crate::zone_handle::transfer::fuzsbanel_zone_serve_transfer;
 use crate::zone_handle::{
-    free, fuzsbanel_zone_close, fuzsbanel_zone_open, fuzsbanel_zone_raise_serial,
-    fuzsbanel_zone_text,
+    free, fuzsbanel_zone_close, fuzsbanel_zone_raise_serial, fuzsbanel_zone_text,
 };
 use authority::TransferPlace;
 use std::alloc::Global;
@@ -15,7 +15,7 @@ const ORIGIN: &[u8] = b"example.";
 /// What raising the serial of a zone of this text answers, twice, and its text then.
 fn raised(alloc: Global, text: &[u8], out: &mut [u8], needed: &mut usize) -> (i64, i64) {
     let mut handle = ZoneHandle::closed();
-    let _opened = fuzsbanel_zone_open(alloc, ORIGIN, text, &[], &[], &mut handle);
+    let _opened = open(alloc, ORIGIN, text, &mut handle);
     let first = fuzsbanel_zone_raise_serial(alloc, &mut handle);
     let second = fuzsbanel_zone_raise_serial(alloc, &mut handle);
     let _written = fuzsbanel_zone_text(alloc, &mut handle, out, needed);
@@ -95,7 +95,7 @@ fn a_zone_is_transferred(rt: HostRuntime) {
         &mut needed,
     );
     assert!(rt; closed == -34 && needed == 0 && place.kind == 0);
-    let opened = fuzsbanel_zone_open(rt.alloc(), ORIGIN, SERVED, &[], &[], &mut handle);
+    let opened = open(rt.alloc(), ORIGIN, SERVED, &mut handle);
     // a query, the kind of the place, the room for a message; what is answered, what is written, and the kind then
     let rows: &[(&[u8], u8, usize, i64, &[u8], u8)] = &[
         (QUERY, 0, 107, -100, b"", 0),

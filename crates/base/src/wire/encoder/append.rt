@@ -81,6 +81,8 @@ impl<'a> BinEncoder<'a> {
         ensures exact { Exactly (just (byte ∷ [])) (state_of self.old) (state_of self.new)
             (told result) }
         ensures err { OnErr result (state_of self.new ≡ state_of self.old) }
+        ensures full { (state_of self.old).limit < length (state_of self.old).bytes + 1
+            → result ≡ Err reasons.NoRoom }
     {
         if usize::from(self.limit) <= self.buffer.len() {
             return Err(AppendError::NoRoom);
@@ -101,6 +103,8 @@ impl<'a> BinEncoder<'a> {
         ensures exact { Exactly (just (to_be_bytes w16 number)) (state_of self.old)
             (state_of self.new) (told result) }
         ensures err { OnErr result (state_of self.new ≡ state_of self.old) }
+        ensures full { (state_of self.old).limit < length (state_of self.old).bytes + 2
+            → result ≡ Err reasons.NoRoom }
     {
         let limit = usize::from(self.limit);
         if limit < self.buffer.len() || limit - self.buffer.len() < 2 {

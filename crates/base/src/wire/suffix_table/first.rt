@@ -8,6 +8,7 @@ ghost use Rattle.base.specs.writing.State.{front_number};
 ghost use Rattle.base.specs.writing.Suffixes.{InOrder, IsEntry, bytes_of};
 ghost use Rattle.base.specs.writing.Written.{found_in};
 
+use crate::wire::suffix_table::SPREAD;
 use std::marker::Model;
 
 /// How many suffixes have room.
@@ -16,8 +17,11 @@ const FIRST: usize = 24;
 /// How many bytes of labels have room.
 const ROOM: usize = 512;
 
-/// How many hints there are.
+/// How many hints there are: one for each number of the five highest bits of a product.
 const HINTS: usize = 32;
+
+/// How far those bits stand above the lowest.
+const HINT_SHIFT: u32 = 27;
 
 /// A suffix: where its labels begin and end among the bytes, each with its length before it, and where it is spelled.
 #[derive(Clone, Copy)]
@@ -169,6 +173,5 @@ impl Entry {
 fn slot_of(front: u32) -> usize
     ensures { result < HINTS }
 {
-    // All bits of the number count for the highest of the product, of which five are taken.
-    (front.wrapping_mul(0x9E37_79B1) >> 27) as usize
+    (front.wrapping_mul(SPREAD) >> HINT_SHIFT) as usize
 }
