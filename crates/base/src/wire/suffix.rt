@@ -32,8 +32,7 @@ pub(crate) fn front_number(wire: &[u8]) -> u32
 }
 
 impl Model for Suffix {
-    ghost use Rattle.base.specs.declared.limits.TheConstants.{POINTER_LIMIT};
-    ghost use Rattle.std.specs.Prelude.{◌≡◌, ◌<◌};
+    ghost use Rattle.std.specs.Prelude.{◌≡◌};
     ghost use Rattle.base.specs.writing.State.{Stored};
     ghost use Rattle.base.specs.names.Labels.{labels_of, IsWire};
 
