@@ -48,6 +48,7 @@ static const char first_zone[] = "@ 3600 SOA ns hostmaster 1 2 3 4 5\n@ 3600 NS 
                                  "@ 60 MX 10 a.mail.host.of.more.than.thirty.bytes\n@ 60 MX 20 www\n"
                                  "a.mail.host.of.more.than.thirty.bytes 60 A 192.0.2.8\n";
 static const char other_zone[] = "@ 60 NS ns.of.a.name.of.more.than.thirty.bytes\n$INCLUDE mail.hosts\n";
+static const char faulty_zone[] = "$INCLUDE mail.hosts\nwww 300 A 192.0.2\n";
 /* a text that zone text may include, after its name, and how long both are */
 #define NAME "mail.hosts"
 static const char hosts[] = NAME "@ 60 MX 1 mail\n";
@@ -56,7 +57,7 @@ static const struct fuzsbanel_included included[] = {{sizeof NAME - 1, sizeof ho
 static uint8_t updates[4][512];
 static int64_t lengths[4];
 
-enum call { OPEN, UPDATE, ANSWER, WRITE, SHARE, UPDATE_SHARED, RAISE_SHARED };
+enum call { OPEN, OPEN_FAULTY, UPDATE, ANSWER, WRITE, SHARE, UPDATE_SHARED, RAISE_SHARED };
 
 /* the mail hosts of example., which have addresses, with EDNS */
 static const uint8_t query[] = "\0\x09\1\0\0\1\0\0\0\0\0\1\7example\0\0\x0f\0\1\0\0\x29\4\xd0\0\0\0\0\0\0";
@@ -74,8 +75,10 @@ static int64_t open_at(struct fuzsbanel_zone_handle *zone, const char *text)
 {
     uint8_t name[64], words[128];
     struct fuzsbanel_fault fault;
-    return fuzsbanel_zone_open(TEXT(ORIGIN), TEXT(text), INCLUDED, zone, name, sizeof name, words, sizeof words,
-                               &fault);
+    int64_t answer = fuzsbanel_zone_open(TEXT(ORIGIN), TEXT(text), INCLUDED, zone, name, sizeof name, words,
+                                         sizeof words, &fault);
+    /* a fault that is told is what was asked for */
+    return fault.line ? 0 : answer;
 }
 
 static int64_t made(enum call call, int i, struct fuzsbanel_zone_handle *zone, struct fuzsbanel_zone_handle *other)
@@ -83,6 +86,8 @@ static int64_t made(enum call call, int i, struct fuzsbanel_zone_handle *zone, s
     switch (call) {
     case OPEN:
         return open_at(zone, other_zone);
+    case OPEN_FAULTY:
+        return open_at(zone, faulty_zone);
     case UPDATE:
     case UPDATE_SHARED: {
         bool is_changed;
@@ -147,6 +152,7 @@ int main(void)
     lengths[3] = fuzsbanel_append(4, TEXT(ORIGIN), TEXT("a.long.label.that.has.its.own.memory 9 TXT more"), true, false,
                                   updates[3], sizeof updates[3], &needed);
     long sum = refused_in_turn("open", OPEN, 0) + refused_in_turn("text", WRITE, 0) + refused_in_turn("answer", ANSWER, 0);
+    sum += refused_in_turn("open at a text with a fault", OPEN_FAULTY, 0);
     sum += refused_in_turn("share", SHARE, 0) + refused_in_turn("raised serial of a shared zone", RAISE_SHARED, 0);
     for (int i = 0; i < 4; i++) {
         if (lengths[i] < 0)

@@ -22,11 +22,10 @@ use Rattle.txt.specs.Zone.{Texts, generic_zone_of, no_texts, placed_zone_by, unp
 use Rattle.txt.specs.ZoneSets.{ZoneSets}
 use Rattle.txt.specs.declared.zone.fault.Inclusion.{Inclusion}
 use Rattle.capi.specs.Answer.{Asked, ◌>>=◌}
-use Rattle.capi.specs.ZoneCheck.{IsChecked, IsToldOf, ToldFault, fault_told, fronted, last_name, told_value}
+use Rattle.capi.specs.ZoneCheck.{IsChecked, ToldFault, fault_told, fronted, last_name, told_value}
 use Rattle.capi.specs.ZoneCheck.{zone_checked}
 use Rattle.capi.specs.ZoneText.{characters, origin_of_text, with_texts, zone_asked, zone_name_of}
 use Rattle.capi.specs.declared.included.Included.{Included}
-use Rattle.capi.specs.declared.zone_check.FaultFound.{FaultFound}
 use Rattle.capi.specs.declared.zone_check.Told.{Told}
 
 -- the text that was opened last is named
@@ -210,14 +209,3 @@ is_told told asked old_name new_name old_words new_words name_len words_len resu
       },
       answer,
     )
-
--- what an open tells, where 3 is its answer once memory ran out in the check
-pub told_of : (asked : Asked (Option ToldFault)) (old_name new_name old_words new_words : List ℕ)
-    (found : FaultFound) (checked result : ℤ)
-    → IsChecked asked old_name new_name old_words new_words found checked
-    ⊎ IsChecked (Err 3) old_name new_name old_words new_words found checked
-    → (checked ≡ neg_ℤ (pos 3) → result ≡ neg_ℤ (pos 3))
-    → IsToldOf asked old_name new_name old_words new_words found result
-told_of asked old_name new_name old_words new_words found checked result (inl is) memory = inr is.0
-told_of asked old_name new_name old_words new_words found checked result (inr is) memory =
-    inl (inr (memory is.1), is.0)

@@ -6,6 +6,7 @@ use Rattle.txt.specs.Places.{Position}
 use Rattle.txt.specs.Zone.{PlacedFault, no_texts, placed_zone_by}
 use Rattle.parsed_zone.specs.Faults.{fault_number}
 use Rattle.capi.specs.Answer.{Asked, ◌>>=◌}
+use Rattle.capi.specs.Refusals.{no_origin}
 use Rattle.capi.specs.ZoneText.{characters, origin_of_text, with_texts}
 use Rattle.capi.specs.declared.zone_check.FaultFound.{FaultFound}
 use Rattle.capi.specs.declared.included.Included.{Included}
@@ -37,6 +38,11 @@ zone_checked origin text included bytes =
     origin_of_text origin >>= λ under. characters text >>= λ chars.
     with_texts no_texts included bytes >>= λ texts.
     Ok (fault_told (placed_zone_by true texts under chars))
+
+-- The fault of a text that a zone is to be opened at; of no origin it is asked for none.
+abbrev pub zone_fault : List ℕ → List ℕ → List Included → List ℕ → Asked (Option ToldFault)
+zone_fault [] text included bytes = Err no_origin
+zone_fault (c ∷ cs) text included bytes = zone_checked (c ∷ cs) text included bytes
 
 -- the fault that is told
 abbrev pub told_value : Told → ToldFault
@@ -92,8 +98,8 @@ abbrev pub IsChecked : Asked (Option ToldFault) → List ℕ → List ℕ → Li
 IsChecked asked old_name new_name old_words new_words found result =
     IsTold asked old_name new_name old_words new_words found × (result ≡ check_answer asked)
 
--- Where 0 is answered, nothing is told, and nothing where memory ran out. Of any other answer it is what the check of
--- the same text tells.
+-- Where 0 is answered, nothing is told, and nothing where memory ran out. Of any other answer the fault is told, if
+-- there is one.
 abbrev pub IsToldOf : Asked (Option ToldFault) → List ℕ → List ℕ → List ℕ → List ℕ → FaultFound → ℤ
     → Type 0
 IsToldOf asked old_name new_name old_words new_words found result =

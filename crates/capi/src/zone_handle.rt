@@ -8,7 +8,7 @@ ghost use Rattle.std.specs.Option.{option_map};
 ghost use Rattle.std.specs.Prelude.{◌≡◌, ◌≢◌, None, Some, false, neg_ℤ, pos};
 ghost use Rattle.capi.specs.Answer.{IsAnswered, IsAnsweredBy, Makes, MakesBy};
 ghost use Rattle.capi.specs.Holding.{EndsAlone, IsAlone, zone_held, zone_in};
-ghost use Rattle.capi.specs.ZoneCheck.{IsToldOf, zone_checked};
+ghost use Rattle.capi.specs.ZoneCheck.{IsToldOf, zone_fault};
 ghost use Rattle.capi.specs.ZoneHandle.{answer_asked, answer_of, carrier, IsHeldText, IsOpenAt, IsOpened, IsRaisedIn, IsRaisingHeld, IsSharing, IsTextOf, IsUpdated, IsUpdating, Opens};
 
 pub mod handle;
@@ -39,8 +39,8 @@ use std::mem;
 
 /// Opens a handle at the zone of an origin, whose records are those of a text, and answers 0. What the handle held
 /// before is freed. The text is read as `fuzsbanel_apply` reads one: an `$ORIGIN` of it is that of names, and never of
-/// the zone. The texts that it may include are handed in as `fuzsbanel_zone_check` takes them, and what that says of the
-/// text, of its fault the place and the words, is told of a text that is refused.
+/// the zone. The texts that it may include are handed in as `fuzsbanel_zone_check` takes them. What that tells of a text,
+/// the place and the words of its fault, is told of one that is refused.
 ///
 /// # Errors
 ///
@@ -60,31 +60,30 @@ pub extern "C" fn fuzsbanel_zone_open(
 ) -> i64
     ensures opened { IsOpened origin.now text.now included.now included_bytes.now handle.old.zone
         handle.new.zone result }
-    ensures told { IsToldOf (zone_checked origin.now text.now included.now included_bytes.now)
+    ensures told { IsToldOf (zone_fault origin.now text.now included.now included_bytes.now)
         name.old name.new words.old words.new found.new result }
 {
-    match zone_of(alloc, origin, text, included, included_bytes) {
-        Ok(zone) => {
-            *found = FaultFound::NONE;
-            open_at(alloc, handle, Holding::Own(zone))
-        }
-        Err(refusal) => {
-            let checked = fuzsbanel_zone_check(
-                alloc,
-                origin,
-                text,
-                included,
-                included_bytes,
-                name,
-                words,
-                found,
-            );
-            if checked == NO_MEMORY {
-                return NO_MEMORY;
-            }
-            number(Err(refusal))
+    *found = FaultFound::NONE;
+    let refusal = match zone_of(alloc, origin, text, included, included_bytes) {
+        Ok(zone) => return open_at(alloc, handle, Holding::Own(zone)),
+        Err(refusal) => refusal,
+    };
+    if !origin.is_empty() {
+        let checked = fuzsbanel_zone_check(
+            alloc,
+            origin,
+            text,
+            included,
+            included_bytes,
+            name,
+            words,
+            found,
+        );
+        if checked == NO_MEMORY {
+            return NO_MEMORY;
         }
     }
+    number(Err(refusal))
 }
 
 /// Applies an update to the zone, where it is, and answers the server's code (RFC 2136, 2.2 and 3): 0 for NoError, and

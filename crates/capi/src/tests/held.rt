@@ -210,7 +210,8 @@ const INCLUDED: &[Included] = &[
 
 const BYTES: &[u8] = b"hosts\n$INCLUDE more\n\nmorewww 300 A 192.0.2.2\n";
 
-/// What opening a handle at a text with these to include answers, and what it tells.
+/// What opening a handle answers, and what it tells.
+#[derive(Drop)]
 struct Opened {
     answer: i64,
     found: FaultFound,
@@ -244,7 +245,7 @@ fn opened_with(
     }
 }
 
-/// What is told of a text that includes others is told of its fault.
+/// Whether this place, this name and these words were told, both as far as they have room.
 fn tells(opened: &Opened, line: usize, column: usize, name: &[u8; 4], words: &[u8; 24]) -> bool {
     opened.found.line == line
         && opened.found.column == column

@@ -6,8 +6,8 @@ use Rattle.capi.specs.ZoneText.{zone_asked}
 use Rattle.capi.specs.declared.zone_handle.holding.Holding.TheVariants as holdings
 use Rattle.capi.proofs.zone_handle.fuzsbanel_zone_open.Goals as goal
 
-pub returns-in-Ok : goal.returns-in-Ok
-returns-in-Ok c =
+pub returns-in-Ok-clause-opened : goal.returns-in-Ok-clause-opened
+returns-in-Ok-clause-opened c =
     let old = c.args.handle.now.zone in
     let new = c.open_at.new.handle.zone in
     let answered : ℤ = to_z w64 (of_z w64 c.open_at.result) in
@@ -16,8 +16,8 @@ returns-in-Ok c =
     answered c.in-Ok.zone c.in-Ok.ensures
     (subst (IsOpenAt (holdings.Own c.in-Ok.zone) old new) (sym same) c.open_at.ensures)
 
-pub returns-in-Err : goal.returns-in-Err
-returns-in-Err c =
+pub returns-clause-opened : goal.returns-clause-opened
+returns-clause-opened c =
     opening_refused (zone_asked c.args.origin.now c.args.text.now c.args.included.now c.args.included_bytes.now)
     c.args.handle.now.zone c.args.handle.now.zone _ c.in-Err.refusal.number c.in-Err.ensures refl
     (to_z-of_z w64 c.number.result (record { sfits = c.number.type_inv }) ∙ c.number.ensures)
