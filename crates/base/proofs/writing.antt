@@ -3,6 +3,7 @@ pub mod CompressionLemmas
 pub mod FittingLemmas
 pub mod ItemLemmas
 pub mod LawLemmas
+pub mod LongestLemmas
 pub mod MarkLemmas
 pub mod PatchLemmas
 pub mod SaysLemmas

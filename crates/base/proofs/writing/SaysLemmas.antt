@@ -1,6 +1,6 @@
 -- What follows of the states of an encoder from what is known of what is written: what stood stays, it was written as
 -- its word, and it was refused only where it has too many bytes.
-use Rattle.std.proofs.Common.{◌≡◌, ℕ, ◌+◌, ◌^◌, ◌<◌, ◌≤◌, List, ◌∷◌, length, drop, refl, ◌∙◌, ap, arith, length-append}
+use Rattle.std.proofs.Common.{◌≡◌, ℕ, ◌+◌, ◌^◌, ◌<◌, ◌≤◌, List, length, drop, refl, ◌∙◌, ap, arith, length-append}
 use Rattle.std.specs.Prelude.{Result, Ok, Err, OnOk, max}
 use Rattle.std.proofs.Math.Seq.{drop-append_seam}
 use Rattle.base.specs.declared.error.proto_error.ProtoError.{ProtoError}
@@ -8,12 +8,12 @@ use Rattle.base.specs.declared.error.proto_error.ProtoError.TheVariants as refus
 use Rattle.base.specs.names.Labels.{size_of}
 use Rattle.base.specs.writing.Laws.{Holds, Keeps, Writes, StoresSuffixes}
 use Rattle.base.specs.writing.Says.{IsThere, Says}
-use Rattle.base.specs.writing.SaysName.{added_at, near, near_all, name_wrote, ends_at, stores_each}
+use Rattle.base.specs.writing.SaysName.{name_wrote, ends_at, stores_each}
 use Rattle.base.specs.writing.SaysParts.{any_after}
-use Rattle.base.specs.writing.State.{State, Stored}
+use Rattle.base.specs.writing.State.{State}
 use Rattle.base.specs.writing.Wire.{Refuses}
 use Rattle.base.proofs.writing.LawLemmas.{Keeps-after}
-use Rattle.base.specs.writing.Written.{Writing, Exactly, piece_at, after, label_of, name}
+use Rattle.base.specs.writing.Written.{Writing, Exactly, piece_at, after, name}
 
 module _ {F : Type 0} {word : List ℕ → ℕ → ℕ → Type 0} {plain : ℕ} {owner : List (List ℕ)} (f : Writing) (a b : State)
     (s : Says f F word plain owner) where
@@ -75,12 +75,3 @@ name-stores labels a b is =
           a.suffixes n.added (stores_each n.wrote front back _ parts refl (omega (arith, more, end))
           early));
     }
-
--- a label that fits keeps what stood before
-pub Keeps-label : (x : List ℕ) (xs : List (List ℕ)) (s z : State) → z ≡ after (label_of x xs) s
-    → length s.bytes + (1 + length x) ≤ s.limit → Keeps s z
-Keeps-label x xs s z is within =
-    let at = length s.bytes in
-    Keeps-after (label_of x xs) s z (added_at x xs at) is (near x xs at s.suffixes)
-    (near_all (λ (t : Stored). at ≤ t.offset) x xs at (λ early. omega arith))
-    (omega (arith, within, ap (λ (u : State). length u.bytes) is, length-append s.bytes (length x ∷ x)))

@@ -1,13 +1,12 @@
 -- What is written, of parts.
 use Rattle.std.proofs.Common.{◌≡◌, ℕ, zero, suc, ◌+◌, ◌<◌, ◌≤◌, List, [], ◌∷◌, ◌++◌, length, map, take, get_or, refl}
-use Rattle.std.proofs.Common.{ap, sym, ◌∙◌, subst, append_assoc, arith, length-append, Bool, true, false, cond}
-use Rattle.std.specs.Prelude.{Option, Result, Ok, Err, nat_le}
+use Rattle.std.proofs.Common.{ap, sym, ◌∙◌, subst, append_assoc, arith, length-append}
+use Rattle.std.specs.Prelude.{Result, Ok, Err}
 use Rattle.std.proofs.lemmas.List.{append-nil, take_more}
 use Rattle.base.specs.declared.error.proto_error.ProtoError.{ProtoError}
 use Rattle.base.specs.declared.error.proto_error.ProtoError.TheVariants as refusals
-use Rattle.base.specs.writing.State.{State, Stored, appended, stored}
-use Rattle.base.specs.writing.Written.{Writing, piece_at, after, Exactly, just, both, in_turn, found_in, pointer_or}
-use Rattle.base.specs.writing.Written.{label_of, name}
+use Rattle.base.specs.writing.State.{State}
+use Rattle.base.specs.writing.Written.{Writing, piece_at, after, Exactly, just, both, in_turn}
 
 -- what both write, the second writes after the first
 pub after-both : (f g : Writing) (s : State) → after (both f g) s ≡ after g (after f s)
@@ -51,24 +50,6 @@ Exactly-first X Y e f g a s z is =
 pub Exactly-same : {X : Type 0} (r : Result X ProtoError) (f g : Writing) (a z : State) → f ≡ g → Exactly f a z r
     → Exactly g a z r
 Exactly-same r f g a z same is = rw same at is
-
--- ---- names
-
--- a name with a label, by what is found of it
-pub name-by : (rest : List (List ℕ)) (x : List ℕ) (xs : List (List ℕ)) (r : Option ℕ) (s : State) → rest ≡ x ∷ xs
-    → r ≡ found_in s.suffixes rest → after (name rest) s ≡ after (pointer_or (both (label_of x xs) (name xs)) r) s
-name-by rest x xs r s is found = rw (is, found, is)
-
-store_or_not : (far : Bool) (m : State) (ts : List Stored)
-    → cond far m (record m { suffixes = ts }) ≡ record m { suffixes = cond far m.suffixes ts }
-store_or_not true m ts = refl
-store_or_not false m ts = refl
-
--- what writing a label and storing the suffix that it begins makes of a state
-pub label-after : (x : List ℕ) (xs : List (List ℕ)) (s : State)
-    → stored (x ∷ xs) (length s.bytes) (appended (length x ∷ x) s) ≡ after (label_of x xs) s
-label-after x xs s = store_or_not (nat_le 16384 (length s.bytes)) (appended (length x ∷ x) s)
-    (s.suffixes ++ record { labels = x ∷ xs; offset = length s.bytes } ∷ [])
 
 -- ---- items
 

@@ -1,9 +1,23 @@
 -- That a name is compressed as far as it can be (RFC 1035, 4.1.4).
-use Rattle.std.specs.Prelude.{◌≡◌, ℕ, ◌+◌, List, [], ◌∷◌, ◌++◌, ◌⊎◌, Some, None}
+use Rattle.std.specs.Prelude.{◌≡◌, ℕ, ◌+◌, List, [], ◌∷◌, ◌++◌, ◌⊎◌, Option, Some, None, length}
+use Rattle.std.specs.Prelude.{is_some, if◌then◌else◌}
 use Rattle.std.specs.Int.{w16, to_be_bytes}
+use Rattle.std.specs.Option.{option_or}
 use Rattle.base.specs.names.Labels.{wire_of}
 use Rattle.base.specs.writing.State.{Stored}
 use Rattle.base.specs.writing.Written.{found_in, name}
+
+-- the offset of the longest suffix of these labels that is stored, letters as they are
+abbrev pub longest_found : List Stored → List (List ℕ) → Option ℕ
+longest_found stored [] = None
+longest_found stored (x ∷ xs) =
+    option_or (found_in stored (x ∷ xs)) (longest_found stored xs)
+
+-- how many bytes the labels before that suffix are, each with its length before it; all, where none is stored
+abbrev pub size_before : List Stored → List (List ℕ) → ℕ
+size_before stored [] = 0
+size_before stored (x ∷ xs) = if is_some (found_in stored (x ∷ xs)) then 0
+    else 1 + length x + size_before stored xs
 
 -- Of labels with others after them: nothing is stored that begins with one of the first.
 abbrev pub NoneLonger : List Stored → List (List ℕ) → List (List ℕ) → Type 0

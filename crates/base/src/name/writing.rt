@@ -11,7 +11,7 @@ ghost use Rattle.base.specs.Words.{NameAt};
 ghost use Rattle.base.specs.writing.Written.{Exactly, name, plain_name};
 
 use crate::error::ProtoError;
-use crate::name::{Name, first_label};
+use crate::name::Name;
 use crate::wire::encoder::append::AppendError;
 use crate::wire::{BinEncodable, BinEncoder};
 
@@ -61,17 +61,19 @@ impl Name {
         ensures exact { Exactly (name self.now.labels)
             (state_of encoder.old) (state_of encoder.new) (told result) }
     {
-        let mut rest = self.as_wire();
-        while let Some((label, tail)) = first_label(rest) {
-            if let Some(offset) = encoder.find(rest) {
-                return encoder.append_u16(POINTER + offset);
-            }
-            let at = encoder.len();
-            encoder.append(&rest[..1 + label.len()])?;
-            encoder.store(rest, at)?;
-            rest = tail;
+        let wire = self.as_wire();
+        let (kept, found) = encoder.find_longest(wire);
+        let at = encoder.len();
+        encoder.append(&wire[..kept])?;
+        let mut before = 0;
+        while before < kept {
+            encoder.store(&wire[before..], at + before)?;
+            before += 1 + usize::from(wire[before]);
         }
-        encoder.append_byte(0)
+        match found {
+            Some(offset) => encoder.append_u16(POINTER + offset),
+            None => encoder.append_byte(0),
+        }
     }
 
     /// Writes the name without compression, letters as they are; whether it is absolute isn't written. Neither looks

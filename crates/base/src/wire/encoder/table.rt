@@ -1,31 +1,37 @@
 //! The suffixes that were written, and where (RFC 1035, 4.1.4).
 
 ghost use Rattle.base.specs.declared.limits.TheConstants.{POINTER_LIMIT};
-ghost use Rattle.std.specs.Prelude.{◌≡◌, ◌<◌, ◌≢◌, length, All, Any, MatchOption, OnOk, OnErr, IfSome};
+ghost use Rattle.std.specs.Prelude.{◌≡◌, ◌<◌, ◌≤◌, ◌≢◌, length, All, OnOk, OnErr, IfSome};
 ghost use Rattle.base.specs.names.Labels.{labels_of, IsWire};
+ghost use Rattle.base.specs.writing.Compression.{longest_found, size_before};
 ghost use Rattle.base.specs.writing.State.{stored};
 ghost use Rattle.base.specs.writing.Wire.{state_of};
-ghost use Rattle.base.specs.writing.Written.{found_in};
 
 use crate::limits::POINTER_LIMIT;
 use crate::wire::encoder::BinEncoder;
 use std::alloc::AllocError;
 
 impl<'a> BinEncoder<'a> {
-    /// Where a stored suffix of these labels, each with its length before it, is spelled. Letters are compared as they
-    /// are.
-    pub(crate) fn find(&self, wire: &[u8]) -> Option<u16>
+    /// How many bytes of these labels, each with its length before it, stand before the longest suffix of them that is
+    /// stored, and where that is spelled: all bytes, and nowhere, where none is stored. Letters are compared as they are.
+    pub(crate) fn find_longest(&self, wire: &[u8]) -> (usize, Option<u16>)
         requires { IsWire wire.now }
-        ensures found { MatchOption result (All
-            (λ t. t.labels ≢ labels_of wire.now) (state_of self.now).suffixes)
-            (λ offset. Any (λ t. (t.labels ≡ labels_of wire.now)
-            × (t.offset ≡ offset)) (state_of self.now).suffixes) }
+        ensures kept { result.0
+            ≡ size_before (state_of self.now).suffixes (labels_of wire.now) }
+        ensures found { result.1
+            ≡ longest_found (state_of self.now).suffixes (labels_of wire.now) }
+        ensures inside { result.0 ≤ length wire.now }
         // A pointer can name the offset.
-        ensures near { IfSome result (λ offset. offset < POINTER_LIMIT) }
-        // It is that of the first stored suffix of exactly these labels.
-        ensures value { result ≡ found_in (state_of self.now).suffixes (labels_of wire.now) }
+        ensures near { IfSome result.1 (λ offset. offset < POINTER_LIMIT) }
     {
-        self.suffixes.find(wire)
+        let mut kept = 0;
+        while kept < wire.len() {
+            if let Some(offset) = self.suffixes.find(&wire[kept..]) {
+                return (kept, Some(offset));
+            }
+            kept += 1 + usize::from(wire[kept]);
+        }
+        (kept, None)
     }
 
     /// Stores the suffix of these labels, each with its length before it, that was written at a place after all stored
