@@ -72,12 +72,12 @@ dotted-pieces : (cs : List Character) → dotted (pieces cs) ≡ cs
 dotted-pieces [] = refl
 dotted-pieces (dot ∷ cs) =
     let f = first_of cs in
-    ap (λ (ps : List (List ℕ)). dotted ([] ∷ ps)) f.is ∙ ap (λ (ps : List (List ℕ)). dot ∷ dotted ps) (sym f.is)
+    ap (λ (ps : List (List ℕ)). dotted ([] ∷ ps)) f.2 ∙ ap (λ (ps : List (List ℕ)). dot ∷ dotted ps) (sym f.2)
     ∙ ap (λ (ds : List Character). dot ∷ ds) (dotted-pieces cs)
 dotted-pieces (byte b ∷ cs) =
     let f = first_of cs in
-    ap (λ (ps : List (List ℕ)). dotted (onto_first b ps)) f.is ∙ dotted-onto b f.head f.tail
-    ∙ ap (λ (ps : List (List ℕ)). byte b ∷ dotted ps) (sym f.is)
+    ap (λ (ps : List (List ℕ)). dotted (onto_first b ps)) f.2 ∙ dotted-onto b f.0 f.1
+    ∙ ap (λ (ps : List (List ℕ)). byte b ∷ dotted ps) (sym f.2)
     ∙ ap (λ (ds : List Character). byte b ∷ ds) (dotted-pieces cs)
 
 dotted-end : (labels : List (List ℕ)) (absolute : Bool) → labels ≢ []
@@ -146,8 +146,8 @@ module _ {text : List ℕ} (labels : List (List ℕ)) (absolute : Bool) where
       let some : labels ≢ [] = λ (e : labels ≡ []). let none = ap length e in grind (arith, nat_tests) in
       let f = first_of cs in
       let whole : pieces cs ≡ labels ++ last_piece absolute =
-      f.is ∙ without_end-is f.head f.tail ∙ ap (λ (ps : List (List ℕ)). (without_end ps).0 ++ last_piece
-      (without_end ps).1) (sym f.is)
+      f.2 ∙ without_end-is f.0 f.1 ∙ ap (λ (ps : List (List ℕ)). (without_end ps).0 ++ last_piece
+      (without_end ps).1) (sym f.2)
       ∙ ap (λ (r : List (List ℕ) × Bool). r.0 ++ last_piece r.1) cut in
       record {
         reads = subst (AreCharsOf text) (sym (dotted-pieces cs) ∙ ap dotted whole ∙ dotted-end labels absolute some)

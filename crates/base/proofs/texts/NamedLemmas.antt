@@ -1,7 +1,6 @@
 -- What the text of a name names.
-use Rattle.std.proofs.Common.{◌≡◌, ◌≢◌, ℕ, ◌+◌, ◌<◌, ◌≤◌, List, [], ◌∷◌, ◌++◌, length, get_or, refl, ap}
-use Rattle.std.proofs.Common.{sym, ◌∙◌, subst, arith, length-append, Bool, true, false, Option, Some, None, Result, Ok}
-use Rattle.std.proofs.Common.{Err}
+use Rattle.std.proofs.Common.{◌≡◌, ◌≢◌, ℕ, ◌+◌, ◌<◌, ◌≤◌, List, [], ◌∷◌, ◌++◌, length, get_or, refl, ap, sym, ◌∙◌}
+use Rattle.std.proofs.Common.{subst, arith, length-append, Bool, true, false, Option, Some, None, Result, Ok, Err}
 use Rattle.std.specs.Prelude.{◌↔◌}
 use Rattle.std.proofs.lemmas.List.{append-nil, same_from_push}
 use Rattle.base.specs.declared.error.parse_error.ParseError.{ParseError}
@@ -13,7 +12,7 @@ use Rattle.base.proofs.texts.CharLemmas.{reads_more}
 use Rattle.base.proofs.names.LabelLemmas.{AreLabels-append, IsWire-wire_of, labels_of-wire_of, size_of-labels_of}
 use Rattle.base.proofs.names.LabelLemmas.{wire_of-append}
 use Rattle.base.specs.reading.PointerLemmas.{length-wire_of}
-use Rattle.base.proofs.texts.ParseLemmas.{last_piece, not_nil, size_of-append, text_pieces}
+use Rattle.base.proofs.texts.ParseLemmas.{last_piece, not_nil, size_of-append, text_pieces, first_some, NoLabels}
 
 reads_dot : AreCharsOf (46 ∷ []) (dot ∷ [])
 unfolding first_char
@@ -26,13 +25,7 @@ reads_at = reads_more refl none
 -- a dot alone is no labels
 pub not_dot : {text : List ℕ} {labels : List (List ℕ)} {absolute : Bool} → text ≡ 46 ∷ []
     → IsLabelsText text labels absolute → ⊥
-not_dot {labels = labels} {absolute = absolute} is text =
-    go labels text.each text.some (text_pieces text
-    (subst (λ (t : List ℕ). AreCharsOf t (dot ∷ [])) (sym is) reads_dot))
-  where
-    go : (labels : List (List ℕ)) → AreLabels labels → labels ≢ [] → [] ∷ [] ∷ [] ≡ labels ++ last_piece absolute → ⊥
-    go [] are some e = some refl
-    go (x ∷ xs) are some e = let first : [] ≡ x = cc in omega (arith, are.0.some, ap length first)
+not_dot is text = first_some text (subst (λ (t : List ℕ). AreCharsOf t (dot ∷ [])) (sym is) reads_dot) ([] ∷ []) refl
 
 -- a sign @ alone has no dot at the end
 pub not_absolute_at : {text : List ℕ} {labels : List (List ℕ)} → text ≡ 64 ∷ [] → IsLabelsText text labels true → ⊥
@@ -67,7 +60,7 @@ at_dot e f = let codes : 46 ∷ [] ≡ 64 ∷ [] = sym e ∙ f in omega (arith, 
 
 -- what is named where the text is no labels
 pub no_name : {text : List ℕ} {o : Option NameValue} {n : NameValue} → text ≢ 46 ∷ [] → text ≢ 64 ∷ []
-    → ((labels : List (List ℕ)) (absolute : Bool) → IsLabelsText text labels absolute → ⊥) → IsNameText text o n → ⊥
+    → NoLabels text → IsNameText text o n → ⊥
 no_name not_root at nothing (is_root e) = not_root e
 no_name not_root at nothing (is_origin e f) = at f
 no_name not_root at nothing (is_absolute {labels} text) = nothing labels true text
