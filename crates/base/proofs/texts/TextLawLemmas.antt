@@ -1,16 +1,15 @@
 -- The text of a name names it, and a text names one name.
-use Rattle.std.proofs.Common.{◌≡◌, ◌≢◌, ℕ, suc, ◌+◌, ◌-◌, ◌*◌, ◌/◌, ◌%◌, ◌<◌, ◌≤◌, List, [], ◌∷◌, ◌++◌}
-use Rattle.std.proofs.Common.{length, map, refl, ap, sym, ◌∙◌, subst, arith, append_assoc, Bool, true, false, Option}
-use Rattle.std.proofs.Common.{Some, None}
+use Rattle.std.proofs.Common.{◌≡◌, ◌≢◌, ℕ, suc, ◌+◌, ◌-◌, ◌*◌, ◌/◌, ◌%◌, ◌<◌, ◌≤◌, List, [], ◌∷◌, ◌++◌, length, map}
+use Rattle.std.proofs.Common.{refl, ap, sym, ◌∙◌, subst, arith, append_assoc, Bool, true, false, Option, Some, None}
 use Rattle.std.specs.Prelude.{All, ◌==◌, ◌||◌, ◌&&◌, nat_lt, nat_le}
 use Rattle.std.specs.Char.{is_ascii_digit}
 use Rattle.std.proofs.lemmas.Bool.Decides.{nat_tests}
 use Rattle.std.proofs.lemmas.List.{append-nil}
 use Rattle.base.specs.names.Labels.{NameValue, AreLabels, plain_len}
 use Rattle.base.specs.texts.NameText.{Character, dot, byte, AreCharsOf, none, IsLabelsText, IsNameText, is_root}
-use Rattle.base.specs.texts.NameText.{is_origin, is_absolute, is_relative}
-use Rattle.base.specs.texts.NameText.{is_completed, byte_text, decimal_char, decimal_text, dotted, escaped_char}
-use Rattle.base.specs.texts.NameText.{first_char, is_special, label_text, labels_text, name_text}
+use Rattle.base.specs.texts.NameText.{is_origin, is_absolute, is_relative, is_completed, byte_text, decimal_char}
+use Rattle.base.specs.texts.NameText.{decimal_text, dotted, escaped_char, first_char, is_special, label_text}
+use Rattle.base.specs.texts.NameText.{labels_text, name_text}
 use Rattle.base.proofs.texts.CharLemmas.{reads_more}
 use Rattle.base.proofs.texts.NamedLemmas.{at_dot, labels_once, not_absolute_at, not_dot, reads_at, some_once, some_none}
 use Rattle.base.proofs.texts.ParseLemmas.{text_pieces}
