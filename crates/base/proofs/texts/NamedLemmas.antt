@@ -1,6 +1,6 @@
 -- What the text of a name names.
-use Rattle.std.proofs.Common.{◌≡◌, ◌≢◌, ℕ, ◌+◌, ◌≤◌, List, [], ◌∷◌, ◌++◌, length, get_or, refl, ap, sym, ◌∙◌, subst}
-use Rattle.std.proofs.Common.{arith, length-append, Bool, true, false, Option, Some, None, Result, Err}
+use Rattle.std.proofs.Common.{◌≡◌, ◌≢◌, ℕ, ◌+◌, ◌≤◌, List, [], ◌∷◌, ◌++◌, length, refl, ap, sym, ◌∙◌, subst, arith}
+use Rattle.std.proofs.Common.{length-append, Bool, true, false, Option, Result, Err}
 use Rattle.std.specs.Prelude.{◌↔◌}
 use Rattle.base.specs.declared.error.parse_error.ParseError.{ParseError}
 use Rattle.base.specs.declared.error.parse_error.ParseError.TheVariants as refusals
@@ -33,15 +33,6 @@ not_absolute_at {labels = labels} is text =
       go [] some e = some refl
       go (x ∷ xs) some e = not_nil xs [] (let tail : [] ≡ xs ++ [] ∷ [] = cc in sym tail)
 
-pub some_once : {A : Type 0} {x y : A} → Some x ≡ Some y → x ≡ y
-some_once e = cc
-
-pub some_none : {A : Type 0} {x : A} → Some x ≡ None → ⊥
-some_none e = cc
-
-pub at_dot : {text : List ℕ} → text ≡ 46 ∷ [] → text ≡ 64 ∷ [] → ⊥
-at_dot e f = let codes : 46 ∷ [] ≡ 64 ∷ [] = sym e ∙ f in omega (arith, ap (λ (t : List ℕ). get_or t 0 0) codes)
-
 -- what is named where the text is no labels
 pub no_name : {text : List ℕ} {o : Option NameValue} {n : NameValue} → text ≢ 46 ∷ [] → text ≢ 64 ∷ []
     → NoLabels text → IsNameText text o n → ⊥
@@ -52,20 +43,21 @@ no_name not_root at nothing (is_relative {labels} e f text) = nothing labels fal
 no_name not_root at nothing (is_completed {labels = labels} e f text short) = nothing labels false text
 
 -- labels after others, in bytes
+appended : (bytes wire : List ℕ) (labels : List (List ℕ)) → IsWire bytes → wire ≡ wire_of labels
+    → bytes ++ wire ≡ wire_of (labels_of bytes ++ labels)
+appended bytes wire labels holds is = rw (wire_of-append (labels_of bytes) labels, is)
+    (ap (λ (front : List ℕ). front ++ wire_of labels) (sym holds.whole))
+
 pub appended_labels : (bytes wire : List ℕ) (labels : List (List ℕ)) → IsWire bytes → wire ≡ wire_of labels
     → labels_of (bytes ++ wire) ≡ labels_of bytes ++ labels
 appended_labels bytes wire labels holds is =
-    ap labels_of (ap (λ (front : List ℕ). front ++ wire) (sym holds.whole)
-    ∙ ap (λ (back : List ℕ). wire_of (labels_of bytes) ++ back) is
-    ∙ sym (wire_of-append (labels_of bytes) labels)) ∙ labels_of-wire_of (labels_of bytes ++ labels)
+    ap labels_of (appended bytes wire labels holds is) ∙ labels_of-wire_of (labels_of bytes ++ labels)
 
 pub IsWire-appended : (bytes wire : List ℕ) (labels : List (List ℕ)) → IsWire bytes → wire ≡ wire_of labels
     → AreLabels labels → length bytes + length wire ≤ 254 → IsWire (bytes ++ wire)
 IsWire-appended bytes wire labels holds is are short =
-    let whole : wire_of (labels_of bytes ++ labels) ≡ bytes ++ wire = wire_of-append (labels_of bytes) labels
-    ∙ ap (λ (front : List ℕ). front ++ wire_of labels) holds.whole ∙ ap (λ (back : List ℕ). bytes ++ back) (sym is) in
-    subst IsWire whole (IsWire-wire_of (labels_of bytes ++ labels)
-    (AreLabels-append (labels_of bytes) labels holds.labels are)
+    let whole = appended bytes wire labels holds is in
+    rw whole (IsWire-wire_of (labels_of bytes ++ labels) (AreLabels-append (labels_of bytes) labels holds.labels are)
     (omega (arith, length-wire_of (labels_of bytes ++ labels), ap length whole, length-append bytes wire)))
 
 -- what is refused as a bad name, where a text names
