@@ -10,20 +10,17 @@ use Rattle.base.specs.texts.TokenText.{CommentRest, EndsItem, Gap, IsItem, IsLis
 use Rattle.base.specs.texts.TokenText.{goes_on, item_first, line_ends, no_gap, no_more, plain, quoted_first, separator}
 use Rattle.base.specs.texts.TokenText.{escaped}
 use Rattle.base.proofs.texts.ListItems.{IsVisible, separated_is_visible}
+use Rattle.base.proofs.texts.CharLemmas.{same_first}
 
 -- an item, or a quoted text, that was cut off
 abbrev Cut : Type 0
 Cut = Option (List ℕ × List ℕ)
 
-same_cut : {A : Type 0} {x y : A × List ℕ} → Some x ≡ Some y → (x.0 ≡ y.0) × (x.1 ≡ y.1)
-same_cut {A} {x} {y} is = let same : x ≡ y = cc in
-    (ap (λ (cut : A × List ℕ). cut.0) same, ap (λ (cut : A × List ℕ). cut.1) same)
-
 before_some : (c : ℕ) (cut : Cut) (word rest : List ℕ) → before (c ∷ []) cut ≡ Some (word, rest)
     → (w : List ℕ) × (word ≡ c ∷ w) × (cut ≡ Some (w, rest))
 before_some c None word rest is = absurd (cc is)
 before_some c (Some (w, after)) word rest is =
-    let same = same_cut is in
+    let same = same_first is in
     (w, sym same.0, rw same.1 refl)
 
 -- what stands before an end, where the first byte may be kept by a backslash before it
@@ -46,7 +43,7 @@ item_there : (kept : Bool) (text word rest : List ℕ) → item kept text ≡ So
 unfolding item
 item_there true [] word rest is = absurd (cc is)
 item_there false [] word rest is =
-    let same = same_cut is in
+    let same = same_first is in
     rw (← same.0, ← same.1) (refl, no_more, tt)
 item_there true (c ∷ text) word rest is =
     let cut = before_some c (item false text) word rest is in
@@ -58,7 +55,7 @@ item_there false (c ∷ text) word rest is = go (ends_item c) refl (item_there (
       → (text ≡ w ++ r) × Shape ends_item (c == 92) w × EndsItem r)
       → (c ∷ text ≡ word ++ rest) × IsItem word × EndsItem rest
   go true ends again =
-      let same = same_cut (rw ends at is) in
+      let same = same_first (rw ends at is) in
       rw (← same.0, ← same.1) (refl, no_more, ends)
   go false goes again =
       let cut = before_some c (item (c == 92) text) word rest (rw goes at is) in
@@ -98,7 +95,7 @@ quoted_there false (c ∷ text) word rest is = go (c == 34) refl (quoted_there (
       → (text ≡ w ++ 34 ∷ r) × Shape (λ c. c == 34) (c == 92) w)
       → (c ∷ text ≡ word ++ 34 ∷ rest) × IsQuoted word
   go true quote again =
-      let same = same_cut (rw quote at is) in
+      let same = same_first (rw quote at is) in
       rw (← same.0, ← same.1) (ap (λ (b : ℕ). b ∷ text) (eqb-true c 34 quote), no_more)
   go false goes again =
       let cut = before_some c (quoted (c == 92) text) word rest (rw goes at is) in
@@ -178,7 +175,7 @@ put_some : (word : List ℕ) (cut : Option (List (List ℕ) × List ℕ)) (words
     → (others : List (List ℕ)) × (words ≡ word ∷ others) × (cut ≡ Some (others, rest))
 put_some word None words rest is = absurd (cc is)
 put_some word (Some (others, after)) words rest is =
-    let same = same_cut is in
+    let same = same_first is in
     (others, sym same.0, rw same.1 refl)
 
 list_some : {words : List (List ℕ)} {inner : List ℕ} → IsList words inner → length words < length inner
@@ -238,7 +235,7 @@ list_there (suc steps) text words rest is = first (past_separators false text) r
       go : (closing wrong quote : Bool) → (c == 41) ≡ closing → (c == 40 || c == 36) ≡ wrong → (c == 34) ≡ quote
           → ListOf text words rest
       go true wrong quote is opens quotes =
-          let same = same_cut (rw is at found) in
+          let same = same_first (rw is at found) in
           rw (← same.0, ← same.1) (gap ++ 41 ∷ [], whole ∙ rw (eqb-true c 41 is) (simp append_assoc), closed gap apart)
       go false true quote is opens quotes = absurd (cc (rw (is, opens) at found))
       go false false true is opens quotes =
