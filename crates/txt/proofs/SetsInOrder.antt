@@ -189,6 +189,12 @@ one_more_put run whole left e rest more order is last put =
     let above : AreInOrder (e ∷ whole) = order_back rest (e ∷ whole) (subst AreInOrder (sym all) order) in
     ap (λ (zs : ZoneSets). rest ++ zs) (put ∙ put_first whole e.0 e.1 above) ∙ all
 
+-- a key before the first is not there
+pub none_before : (key : RrKey) (e : RrKey × SetValue) (es : ZoneSets) → AreInOrder (e ∷ es) → key_cmp key e.0 ≡ Less
+    → set_at (e ∷ es) key ≡ None
+none_before key e es order less =
+    lookup-none (is_at (key_cmp key)) (e ∷ es) (none_below_head key_cmp-total key e es order less)
+
 -- a set under a key that is there takes the place of the one there
 pub put_there : (es : ZoneSets) (key : RrKey) (old new : SetValue) → AreInOrder es → set_at es key ≡ Some old
     → insert_entry key_cmp es key new ≡ set_value (is_at (key_cmp key)) es new
@@ -198,9 +204,7 @@ put_there (e ∷ es) key old new order there =
       go : (o : Ordering) → key_cmp key e.0 ≡ o
           → (set_at es key ≡ Some old → insert_entry key_cmp es key new ≡ set_value (is_at (key_cmp key)) es new)
           → insert_entry key_cmp (e ∷ es) key new ≡ set_value (is_at (key_cmp key)) (e ∷ es) new
-      go Less is again = let no : None ≡ Some old =
-          sym (lookup-none (is_at (key_cmp key)) (e ∷ es) (none_below_head key_cmp-total key e es order is)) ∙ there in
-          absurd cc
+      go Less is again = absurd (cc (there, none_before key e es order is))
       go Equal is again = rw is refl
       go Greater is again =
           let later = sym (lookup_tail (is_at (key_cmp key)) e es (ap is_eq is)) ∙ there in

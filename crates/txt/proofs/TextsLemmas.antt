@@ -1,6 +1,6 @@
 -- The included texts of a map, as a list of names and texts.
-use Rattle.std.proofs.Common.{◌≡◌, ℕ, List, [], ◌∷◌, refl, ap, sym, ◌∙◌, map, Bool, true, false, Option, Some}
-use Rattle.std.proofs.Common.{None, Result, Err}
+use Rattle.std.proofs.Common.{◌≡◌, ℕ, List, [], ◌∷◌, refl, ap, sym, ◌∙◌, map, Bool, true, false, Option, Some, None}
+use Rattle.std.proofs.Common.{Result, Err}
 use Rattle.std.specs.BTreeMap.{BTreeMap, is_at}
 use Rattle.std.specs.Cmp.Lexicographic.{slice_cmp}
 use Rattle.std.specs.Map.{lookup}
@@ -12,8 +12,7 @@ use Rattle.base.specs.names.Labels.{NameValue}
 use Rattle.base.specs.texts.TextFaults.{Fault, fault_of}
 use Rattle.txt.specs.Parser.{ParserValue, named_texts, text_among, texts_in}
 use Rattle.txt.specs.Faults.{FailsAt, FailsAtPlace}
-use Rattle.txt.specs.Zone.{PlacedFault, ZoneState, Texts, beginning, folded_text, parsed_of}
-use Rattle.txt.specs.Zone.{placed_zone_by}
+use Rattle.txt.specs.Zone.{PlacedFault, ZoneState, Texts, beginning, folded_text, parsed_of, placed_zone_by}
 use Rattle.txt.specs.declared.zone.fault.FaultPlace.{FaultPlace}
 use Rattle.txt.specs.declared.zone.fault.ZoneFault.{ZoneFault}
 
