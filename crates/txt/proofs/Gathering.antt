@@ -23,10 +23,10 @@ use Rattle.txt.specs.Gathered.{ComesAfter, HasLastKey, IsAscending, KeyedRecords
 use Rattle.txt.specs.Gathered.{with_all, with_keyed}
 use Rattle.txt.specs.ZoneSets.{AreKeyed, IsKeyed, ZoneSets, sets_with, set_at}
 use Rattle.rr.specs.Record.{record_key}
-use Rattle.txt.proofs.KeptSets.{insert_kept, new_kept, same_key}
-use Rattle.txt.proofs.SetsInOrder.{AreInOrder, IsAbove, flipped_back, found_last, inserted_after, kept_front, kept_last}
-use Rattle.txt.proofs.SetsInOrder.{kept_push, last_above, last_key, none_there, order_front, order_push, put_there}
-use Rattle.txt.proofs.SetsInOrder.{set_last, none_before}
+use Rattle.txt.proofs.KeptSets.{insert_kept, new_kept, same_key, append_all}
+use Rattle.txt.proofs.SetsInOrder.{AreInOrder, IsAbove, flipped_back, found_last, inserted_after, kept_last, last_above}
+use Rattle.txt.proofs.SetsInOrder.{last_key, none_there, order_front, order_push, put_there, set_last, none_before}
+use Rattle.txt.proofs.SetsInOrder.{front_all}
 use Rattle.std.proofs.lemmas.List.Elements.{filter_agree}
 use Rattle.std.proofs.lemmas.Bool.Decides.{nat_tests}
 
@@ -282,7 +282,7 @@ joins run front key set new r is own_key changed kept order after made =
     record {
       sets = made ∙ ap (λ (s : SetValue). front ++ (key, s) ∷ []) changed ∙ sym (joined_last front key set r in_order)
           ∙ ap (λ (zs : ZoneSets). with_keyed zs (key, r)) (sym is);
-      kept = subst AreKeyed (sym made) (kept_push front key new (kept_front front ((key, set) ∷ []) there) one);
+      kept = subst AreKeyed (sym made) (append_all _ front ((key, new) ∷ []) (front_all _ front ((key, set) ∷ []) there) (one, tt));
       ordered = subst AreInOrder (sym made) (order_push front key new (order_front front ((key, set) ∷ []) in_order)
           (last_above front key set in_order));
       last = subst (λ (zs : ZoneSets). HasLastKey zs key) (sym made) (last_key front (key, new));
@@ -297,7 +297,7 @@ follows run key set r own_key is above kept order after made =
     (subst (IsKeyed (record_key r)) (sym is) (new_kept r)) in
     record {
       sets = made ∙ ap (λ (s : SetValue). run ++ (key, s) ∷ []) is ∙ sym (new_last run key r above);
-      kept = subst AreKeyed (sym made) (kept_push run key set kept one);
+      kept = subst AreKeyed (sym made) (append_all _ run ((key, set) ∷ []) kept (one, tt));
       ordered = subst AreInOrder (sym made) (order_push run key set order above);
       last = subst (λ (zs : ZoneSets). HasLastKey zs key) (sym made) (last_key run (key, set));
     }

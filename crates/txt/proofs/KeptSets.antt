@@ -68,14 +68,15 @@ own_replaced name r own [] all = tt
 own_replaced name r own (x ∷ xs) all =
     (grind (arith, nat_tests, own, all.0), own_replaced name r own xs all.1)
 
-own_append : (name : NameValue) (xs ys : List (Record RData)) → OwnOwner name xs → OwnOwner name ys
-    → OwnOwner name (xs ++ ys)
-own_append name [] ys own more = more
-own_append name (x ∷ xs) ys own more = (own.0, own_append name xs ys own.1 more)
+-- what holds of both holds of all
+pub append_all : {X : Type 0} (P : X → Type 0) (xs ys : List X) → AllByRecursion P xs → AllByRecursion P ys
+    → AllByRecursion P (xs ++ ys)
+append_all P [] ys own more = more
+append_all P (x ∷ xs) ys own more = (own.0, append_all P xs ys own.1 more)
 
 own_joined : (name : NameValue) (r : Record RData) → same_name r.name name ≡ true → (xs : List (Record RData))
     → OwnOwner name xs → OwnOwner name (joined r xs)
-own_joined name r own xs all = own_append name (replaced r xs) _ (own_replaced name r own xs all)
+own_joined name r own xs all = append_all _ (replaced r xs) _ (own_replaced name r own xs all)
     (last (list_any (has_data_of r) xs)) where
       last : (b : Bool) → OwnOwner name (if b then [] else r ∷ [])
       last true = tt
