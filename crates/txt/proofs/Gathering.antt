@@ -1,14 +1,13 @@
 -- The sets that records make don't depend on the order of records of other keys.
-use Rattle.std.proofs.Common.{◌≡◌, List, [], ◌∷◌, ◌++◌, ◌+◌, get_or, arith, suc, refl, ap, sym, ◌∙◌, subst, Bool, true}
-use Rattle.std.proofs.Common.{false, Some, None, Option, Ok}
-use Rattle.std.proofs.lemmas.Grind.{get_or_tail}
+use Rattle.std.proofs.Common.{◌≡◌, List, [], ◌∷◌, ◌++◌, ◌+◌, arith, suc, refl, ap, sym, ◌∙◌, subst, Bool, true, false}
+use Rattle.std.proofs.Common.{Some, None, Option, Ok}
 use Rattle.std.specs.BTreeMap.{insert_entry, is_at}
 use Rattle.std.specs.Cmp.{tied_itself}
 use Rattle.std.specs.List.{AllByRecursion, filter}
 use Rattle.std.specs.List.Sorted.{IsSortedBy, IsStrictlySortedBy, IsStableBy, ties}
 use Rattle.std.specs.Map.{keys_of, lookup}
 use Rattle.std.specs.Ordering.{is_lt, ordering_reverse}
-use Rattle.std.specs.Prelude.{◌≢◌, Err, IfOk, OnOk, Result, cond, is_some, ⊤}
+use Rattle.std.specs.Prelude.{◌≢◌, cond, is_some, ⊤}
 use Rattle.std.specs.declared.cmp.Ordering.{Ordering}
 use Rattle.std.specs.declared.cmp.Ordering.TheVariants.{Less, Equal, Greater}
 use Rattle.base.proofs.names.KeyLemmas.{key_cmp-exact, key_cmp-total}
@@ -282,7 +281,8 @@ joins run front key set new r is own_key changed kept order after made =
     record {
       sets = made ∙ ap (λ (s : SetValue). front ++ (key, s) ∷ []) changed ∙ sym (joined_last front key set r in_order)
           ∙ ap (λ (zs : ZoneSets). with_keyed zs (key, r)) (sym is);
-      kept = subst AreKeyed (sym made) (append_all _ front ((key, new) ∷ []) (front_all _ front ((key, set) ∷ []) there) (one, tt));
+      kept = subst AreKeyed (sym made) (append_all _ front ((key, new) ∷ []) (front_all _ front ((key, set) ∷ []) there)
+        (one, tt));
       ordered = subst AreInOrder (sym made) (order_push front key new (order_front front ((key, set) ∷ []) in_order)
           (last_above front key set in_order));
       last = subst (λ (zs : ZoneSets). HasLastKey zs key) (sym made) (last_key front (key, new));
@@ -325,21 +325,8 @@ pub ascending : (es : KeyedRecords) → IsSortedBy is_below es → IsAscending e
 ascending [] sorted = tt
 ascending (e ∷ []) sorted = tt
 ascending (e ∷ f ∷ es) sorted = (
-  λ less. let below : true ≡ false = sym (ap is_lt less) ∙ sorted 0 e (omega arith) (omega arith) in cc,
+  λ less. cc (sorted 0 e (omega arith) (omega arith)),
   ascending (f ∷ es) (λ k d from to.
-      let high : get_or (f ∷ es) (k + 1) d ≡ get_or (e ∷ f ∷ es) (suc k + 1) d =
-      ap (λ i. get_or (f ∷ es) i d) (omega arith) ∙ sym (get_or_tail e (f ∷ es) (suc k + 1) d (omega arith)) in
-      let low : get_or (f ∷ es) k d ≡ get_or (e ∷ f ∷ es) (suc k) d =
-      ap (λ i. get_or (f ∷ es) i d) (omega arith) ∙ sym (get_or_tail e (f ∷ es) (suc k) d (omega arith)) in
-      ap (λ x. is_below x (get_or (f ∷ es) k d)) high ∙ ap (is_below (get_or (e ∷ f ∷ es) (suc k + 1) d)) low
-      ∙ sorted (suc k) d (omega arith) (omega (arith, to))),
+      let next : suc k + 1 ≡ suc (k + 1) = omega arith in
+      rw next at (sorted (suc k) d (omega arith) (omega (arith, to)))),
 )
-
-pub on_ok : {X E P Q : Type 0} (result : Result X E) → (P → Q) → OnOk result P → OnOk result Q
-on_ok (Ok x) f h = f h
-on_ok (Err e) f h = tt
-
-pub if_ok : {X E : Type 0} {P Q : X → Type 0} (result : Result X E) → ((x : X) → P x → Q x) → IfOk result P
-    → IfOk result Q
-if_ok (Ok x) f h = f x h
-if_ok (Err e) f h = tt

@@ -253,7 +253,8 @@ module _ {texts : Texts} {max : ℕ} {fs : List Frame} {text : List ℕ} {s : Zo
       → included texts (max - length fs) s name (position text (include_place (symbols unread))) ≡ made
       → finish texts max fs (made >>= λ t. fold (Rest texts max fs) text t (entries to)) ≡ zone
   opening name to made is same =
-      ap (finish texts max fs) (sym (rw same at (opens (symbols unread) to (Rest texts max fs) text s name is))) ∙ r.whole
+      ap (finish texts max fs) (sym (rw same at (opens (symbols unread) to (Rest texts max fs) text s name is)))
+        ∙ r.whole
 
   pub remains_deep : (name : List ℕ) (to : List Placed)
       → first_entry (symbols unread) ≡ Some (include_entry name, to) → max ≤ length fs
@@ -346,12 +347,11 @@ cost_in_is : (texts : Texts) (max n : ℕ) (name text : List ℕ) → n < max �
 unfolding cost_in
 cost_in_is texts max n name text less found = rw (room_is max n less, found) refl
 
-pub work_opened : {name text : List ℕ} (texts : Texts) (max : ℕ) (fs : List Frame) (f : Frame) (unread : Unread)
-    → first_entry (symbols unread) ≡ Some (include_entry name, symbols f.lexer) → length fs < max
-    → texts name ≡ Some text → work texts max (f ∷ fs) (whole_text text) < work texts max fs unread
-work_opened {name} {text} texts max fs f unread is room found =
-    omega (
-      arith,
-      ap (cost (cost_in texts (max - length fs))) (entries_from (symbols unread) _ is),
-      cost_in_is texts max (length fs) name text room found,
-    )
+pub work_opened : {name text : List ℕ} (texts : Texts) (max : ℕ) (fs gs : List Frame) (f : Frame) (unread : Unread)
+    → gs ≡ f ∷ fs → first_entry (symbols unread) ≡ Some (include_entry name, symbols f.lexer) → length fs < max
+    → texts name ≡ Some text → work texts max gs (whole_text text) < work texts max fs unread
+work_opened {name} {text} texts max fs gs f unread below is room found = rw below (omega (
+  arith,
+  ap (cost (cost_in texts (max - length fs))) (entries_from (symbols unread) _ is),
+  cost_in_is texts max (length fs) name text room found,
+))

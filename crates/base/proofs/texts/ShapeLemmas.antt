@@ -199,7 +199,8 @@ list_there (suc steps) text words rest is = first (past_separators false text) r
       → ((t : List ℕ) (ws : List (List ℕ)) (r : List ℕ) → list_items steps t ≡ Some (ws, r) → ListOf t ws r)
       → ListOf text words rest
   first [] at found again = absurd (cc found)
-  first (c ∷ more) at found again = by (gap_there false text c more at) (rw at at (separated_is_visible false text)) where
+  first (c ∷ more) at found again = by (gap_there false text c more at)
+    (rw at at (separated_is_visible false text)) where
     by : GapTo false text (c ∷ more) → IsVisible (c ∷ more) → ListOf text words rest
     by (gap, apart, whole) (visible, other) = go (c == 41) (c == 40 || c == 36) (c == 34) refl refl refl where
       after_quoted : (cut : Cut) → quoted false more ≡ cut → c ≡ 34
@@ -223,12 +224,14 @@ list_there (suc steps) text words rest is = first (past_separators false text) r
           let put = put_some (c ∷ w) (list_items steps after) words rest on in
           let found = item_there (c == 92) more w after cut in
           let others = again after put.0 rest put.2 in
-          let ends = (ends_same others.0 rest (omega (arith, list_some others.2))).0 (subst EndsItem others.1 found.2) in
+          let ends = (ends_same others.0 rest (omega (arith, list_some others.2))).0
+            (subst EndsItem others.1 found.2) in
           rw put.1 (
             gap ++ (c ∷ w) ++ others.0,
             whole ∙ ap (λ (t : List ℕ). gap ++ c ∷ t) (found.0 ∙ ap (λ (t : List ℕ). w ++ t) others.1)
                 ∙ simp append_assoc,
-            item_first gap (c ∷ w) others.0 put.0 apart (one_before ends_item c w goes found.1) (omega arith) dollar ends
+            item_first gap (c ∷ w) others.0 put.0 apart (one_before ends_item c w goes found.1)
+              (omega arith) dollar ends
                 others.2,
           )
 
