@@ -282,7 +282,7 @@ joins run front key set new r is own_key changed kept order after made =
       sets = made ∙ ap (λ (s : SetValue). front ++ (key, s) ∷ []) changed ∙ sym (joined_last front key set r in_order)
           ∙ ap (λ (zs : ZoneSets). with_keyed zs (key, r)) (sym is);
       kept = subst AreKeyed (sym made) (append_all _ front ((key, new) ∷ []) (front_all _ front ((key, set) ∷ []) there)
-        (one, tt));
+          (one, tt));
       ordered = subst AreInOrder (sym made) (order_push front key new (order_front front ((key, set) ∷ []) in_order)
           (last_above front key set in_order));
       last = subst (λ (zs : ZoneSets). HasLastKey zs key) (sym made) (last_key front (key, new));

@@ -49,8 +49,10 @@ keys_append es fs = map-append (λ (e : RrKey × SetValue). e.0) es fs
 pub order_front : (es fs : ZoneSets) → AreInOrder (es ++ fs) → AreInOrder es
 unfolding IsStrictlySortedBy
 order_front [] fs h = tt
-order_front (e ∷ es) fs h = (front_all _ (keys_of es) (keys_of fs) (rw (keys_append es fs) at h.0),
-  order_front es fs h.1)
+order_front (e ∷ es) fs h = (
+  front_all _ (keys_of es) (keys_of fs) (rw (keys_append es fs) at h.0),
+  order_front es fs h.1,
+)
 
 pub order_back : (es fs : ZoneSets) → AreInOrder (es ++ fs) → AreInOrder fs
 unfolding IsStrictlySortedBy
@@ -82,7 +84,7 @@ unfolding IsStrictlySortedBy
 above_all k [] key set h g = (g, tt)
 above_all k (e ∷ es) key set h g =
     let below : key_cmp e.0 key ≡ Less = (back_all _ (keys_of es) (key ∷ [])
-      (rw (keys_append es ((key, set) ∷ [])) at h.0)).0 in
+    (rw (keys_append es ((key, set) ∷ [])) at h.0)).0 in
     (flipped e.0 k (key_cmp-total.trans e.0 key k below (flipped_back k key g)), above_all k es key set h.1 g)
 
 -- the last of a list, and those before it

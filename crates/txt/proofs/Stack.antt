@@ -254,7 +254,7 @@ module _ {texts : Texts} {max : ℕ} {fs : List Frame} {text : List ℕ} {s : Zo
       → finish texts max fs (made >>= λ t. fold (Rest texts max fs) text t (entries to)) ≡ zone
   opening name to made is same =
       ap (finish texts max fs) (sym (rw same at (opens (symbols unread) to (Rest texts max fs) text s name is)))
-        ∙ r.whole
+      ∙ r.whole
 
   pub remains_deep : (name : List ℕ) (to : List Placed)
       → first_entry (symbols unread) ≡ Some (include_entry name, to) → max ≤ length fs

@@ -189,7 +189,7 @@ module _ {text rest : List ℕ} {done : List (List ℕ)} {current : List ℕ}
   gathered_more : (c : Character) (tail : List ℕ) (ended_now : List (List ℕ)) (bytes : List ℕ)
       → first_char rest ≡ Some (c, tail)
       → ((cs : List Character) → ended done ++ (map byte current ++ (c ∷ cs))
-        ≡ ended ended_now ++ (map byte bytes ++ cs))
+      ≡ ended ended_now ++ (map byte bytes ++ cs))
       → Gathered text tail ended_now bytes
   gathered_more c tail ended_now bytes is same = record {
     goes_on = λ cs reads. subst (AreCharsOf text) (same cs) (gathered.goes_on (c ∷ cs) (reads_more is reads));

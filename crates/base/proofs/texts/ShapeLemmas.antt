@@ -200,53 +200,54 @@ list_there (suc steps) text words rest is = first (past_separators false text) r
       → ListOf text words rest
   first [] at found again = absurd (cc found)
   first (c ∷ more) at found again = by (gap_there false text c more at)
-    (rw at at (separated_is_visible false text)) where
-    by : GapTo false text (c ∷ more) → IsVisible (c ∷ more) → ListOf text words rest
-    by (gap, apart, whole) (visible, other) = go (c == 41) (c == 40 || c == 36) (c == 34) refl refl refl where
-      after_quoted : (cut : Cut) → quoted false more ≡ cut → c ≡ 34
-          → listed (list_items steps) (element_of cut) ≡ Some (words, rest) → ListOf text words rest
-      after_quoted None cut quote on = absurd (cc on)
-      after_quoted (Some (word, after)) cut quote on =
-          let put = put_some word (list_items steps after) words rest on in
-          let found = quoted_there false more word after cut in
-          let others = again after put.0 rest put.2 in
-          rw put.1 (
-            gap ++ 34 ∷ word ++ 34 ∷ others.0,
-            whole ∙ ap (λ (t : List ℕ). gap ++ c ∷ t) (found.0 ∙ ap (λ (t : List ℕ). word ++ 34 ∷ t) others.1)
-                ∙ rw quote (simp append_assoc),
-            quoted_first gap word others.0 put.0 apart found.1 others.2,
-          )
+      (rw at at (separated_is_visible false text)) where
+        by : GapTo false text (c ∷ more) → IsVisible (c ∷ more) → ListOf text words rest
+        by (gap, apart, whole) (visible, other) = go (c == 41) (c == 40 || c == 36) (c == 34) refl refl refl where
+          after_quoted : (cut : Cut) → quoted false more ≡ cut → c ≡ 34
+              → listed (list_items steps) (element_of cut) ≡ Some (words, rest) → ListOf text words rest
+          after_quoted None cut quote on = absurd (cc on)
+          after_quoted (Some (word, after)) cut quote on =
+              let put = put_some word (list_items steps after) words rest on in
+              let found = quoted_there false more word after cut in
+              let others = again after put.0 rest put.2 in
+              rw put.1 (
+                gap ++ 34 ∷ word ++ 34 ∷ others.0,
+                whole ∙ ap (λ (t : List ℕ). gap ++ c ∷ t) (found.0 ∙ ap (λ (t : List ℕ). word ++ 34 ∷ t) others.1)
+                    ∙ rw quote (simp append_assoc),
+                quoted_first gap word others.0 put.0 apart found.1 others.2,
+              )
 
-      after_item : (cut : Cut) → item (c == 92) more ≡ cut → ends_item c ≡ false → (c == 36) ≡ false
-          → listed (list_items steps) (element_of (before (c ∷ []) cut)) ≡ Some (words, rest) → ListOf text words rest
-      after_item None cut goes dollar on = absurd (cc on)
-      after_item (Some (w, after)) cut goes dollar on =
-          let put = put_some (c ∷ w) (list_items steps after) words rest on in
-          let found = item_there (c == 92) more w after cut in
-          let others = again after put.0 rest put.2 in
-          let ends = (ends_same others.0 rest (omega (arith, list_some others.2))).0
-            (subst EndsItem others.1 found.2) in
-          rw put.1 (
-            gap ++ (c ∷ w) ++ others.0,
-            whole ∙ ap (λ (t : List ℕ). gap ++ c ∷ t) (found.0 ∙ ap (λ (t : List ℕ). w ++ t) others.1)
-                ∙ simp append_assoc,
-            item_first gap (c ∷ w) others.0 put.0 apart (one_before ends_item c w goes found.1)
-              (omega arith) dollar ends
-                others.2,
-          )
+          after_item : (cut : Cut) → item (c == 92) more ≡ cut → ends_item c ≡ false → (c == 36) ≡ false
+              → listed (list_items steps) (element_of (before (c ∷ []) cut)) ≡ Some (words, rest)
+              → ListOf text words rest
+          after_item None cut goes dollar on = absurd (cc on)
+          after_item (Some (w, after)) cut goes dollar on =
+              let put = put_some (c ∷ w) (list_items steps after) words rest on in
+              let found = item_there (c == 92) more w after cut in
+              let others = again after put.0 rest put.2 in
+              let ends = (ends_same others.0 rest (omega (arith, list_some others.2))).0
+              (subst EndsItem others.1 found.2) in
+              rw put.1 (
+                gap ++ (c ∷ w) ++ others.0,
+                whole ∙ ap (λ (t : List ℕ). gap ++ c ∷ t) (found.0 ∙ ap (λ (t : List ℕ). w ++ t) others.1)
+                    ∙ simp append_assoc,
+                item_first gap (c ∷ w) others.0 put.0 apart (one_before ends_item c w goes found.1)
+                    (omega arith) dollar ends others.2,
+              )
 
-      go : (closing wrong quote : Bool) → (c == 41) ≡ closing → (c == 40 || c == 36) ≡ wrong → (c == 34) ≡ quote
-          → ListOf text words rest
-      go true wrong quote is opens quotes =
-          let same = same_first (rw is at found) in
-          rw (← same.0, ← same.1) (gap ++ 41 ∷ [], whole ∙ rw (eqb-true c 41 is) (simp append_assoc), closed gap apart)
-      go false true quote is opens quotes = absurd (cc (rw (is, opens) at found))
-      go false false true is opens quotes =
-          after_quoted (quoted false more) refl (eqb-true c 34 quotes) (rw (is, opens, quotes) at found)
-      go false false false is opens quotes =
-          let goes : ends_item c ≡ false = grind (arith, nat_tests, visible, other, is, opens, quotes) in
-          after_item (item (c == 92) more) refl goes (grind (arith, nat_tests, opens))
-          (rw (goes, is, opens, quotes) at found)
+          go : (closing wrong quote : Bool) → (c == 41) ≡ closing → (c == 40 || c == 36) ≡ wrong → (c == 34) ≡ quote
+              → ListOf text words rest
+          go true wrong quote is opens quotes =
+              let same = same_first (rw is at found) in
+              let all = whole ∙ rw (eqb-true c 41 is) (simp append_assoc) in
+              rw (← same.0, ← same.1) (gap ++ 41 ∷ [], all, closed gap apart)
+          go false true quote is opens quotes = absurd (cc (rw (is, opens) at found))
+          go false false true is opens quotes =
+              after_quoted (quoted false more) refl (eqb-true c 34 quotes) (rw (is, opens, quotes) at found)
+          go false false false is opens quotes =
+              let goes : ends_item c ≡ false = grind (arith, nat_tests, visible, other, is, opens, quotes) in
+              after_item (item (c == 92) more) refl goes (grind (arith, nat_tests, opens))
+              (rw (goes, is, opens, quotes) at found)
 
 element_item : (c : ℕ) (rest : List ℕ) → ends_item c ≡ false → (c == 36) ≡ false
     → element (past_separators false (c ∷ rest)) ≡ element_of (item false (c ∷ rest))

@@ -1,7 +1,6 @@
 -- The table of suffixes, and what storing one and forgetting the last does to it.
 use Rattle.base.specs.declared.limits.TheConstants.{POINTER_LIMIT}
-use Rattle.std.proofs.Common.{◌≡◌, ◌≢◌, ℕ, zero, suc, ◌+◌, ◌-◌, ◌<◌, ◌≤◌, ◌⊎◌, inl, inr, refl, List, [], ◌∷◌, ◌++◌}
-use Rattle.std.proofs.Common.{length, get_or}
+use Rattle.std.proofs.Common.{◌≡◌, ◌≢◌, ℕ, zero, suc, ◌+◌, ◌-◌, ◌<◌, ◌≤◌, ◌⊎◌, inl, inr, refl, List, [], ◌∷◌, ◌++◌, length, get_or}
 use Rattle.std.proofs.Common.{take, drop, ap, sym, ◌∙◌, subst, arith, length-append}
 use Rattle.std.specs.Prelude.{All, Bool, Vec, Option, Some, None, IfSome}
 use Rattle.std.specs.Bool.{Decides}

@@ -1,7 +1,6 @@
 -- The table of suffixes: a list in order of offset, and an ordered index of it.
 use Rattle.base.specs.declared.limits.TheConstants.{POINTER_LIMIT}
-use Rattle.std.specs.Prelude.{◌≡◌, ◌≢◌, ℕ, ◌+◌, ◌-◌, ◌*◌, ◌/◌, ◌%◌, ◌^◌, ◌<◌, ◌≤◌, ◌++◌, List, Option, Some, Vec, All}
-use Rattle.std.specs.Prelude.{length}
+use Rattle.std.specs.Prelude.{◌≡◌, ◌≢◌, ℕ, ◌+◌, ◌-◌, ◌*◌, ◌/◌, ◌%◌, ◌^◌, ◌<◌, ◌≤◌, ◌++◌, List, Option, Some, Vec, All, length}
 use Rattle.std.specs.Prelude.{drop, get_or}
 use Rattle.std.specs.BTreeMap.{BTreeMap}
 use Rattle.std.specs.Int.{w32, to_be_bytes}
@@ -36,8 +35,7 @@ pub record IsEntry (text : List ℕ) (e : Entry) : Type 0 where
 -- a number of the first eight bytes, of the last eight, and of how many there are
 abbrev pub key_number : List ℕ → ℕ
 key_number bytes =
-    ((front_number bytes + (front_number (drop (length bytes - 8) bytes) * 31) % 2 ^ 32) % 2 ^ 32 + length bytes) % 2 ^
-      32
+    ((front_number bytes + (front_number (drop (length bytes - 8) bytes) * 31) % 2 ^ 32) % 2 ^ 32 + length bytes) % 2 ^ 32
 
 -- the key of a suffix of these bytes: their number, the highest byte first, and all of them
 abbrev pub index_key : List ℕ → List ℕ

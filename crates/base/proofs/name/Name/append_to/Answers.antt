@@ -98,8 +98,7 @@ returns-in_err-append-clause-exact c =
 pub returns-clause-exact : goal.returns-clause-exact
 returns-clause-exact c =
     let s = state_of c.loop-label.encoder in
-    Exactly-from (told c.append_byte.result) (name c.args.self.now.labels) (just (0 ∷ []))
-      (state_of c.args.encoder.now) s
+    Exactly-from (told c.append_byte.result) (name c.args.self.now.labels) (just (0 ∷ [])) (state_of c.args.encoder.now) s
     (state_of c.append_byte.new.self)
     (c.loop-label.invariant.exact ∙ ap (λ labels. after (name labels) s) c.in_default.ensures.labels)
     c.append_byte.ensures.exact

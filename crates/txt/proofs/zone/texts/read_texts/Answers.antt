@@ -94,7 +94,7 @@ entries-preserved-in-Include c =
     let origin : c.in_ok-origin-in-Include.origin ≡ c.entries.context.origin = cc c.in_ok-origin-in-Include.ensures in
     remains_opened c.entries.invariant _ c.as_str-text.result.now (reverse c.push.new.self.items)
     c.new-lexer-in-Include.result (stacked _ _ c.in_ok-push-in-Include.ensures.items) c.new-lexer-in-Include.ensures
-      refl
+    refl
     found here origin (omega (arith, length-reverse c.entries.below.items)) text (search rules)
 
 pub returns-in_default-error : goal.returns-in_default-error

@@ -15,8 +15,7 @@ invariant_of-self-2 c =
     let is : c.self.inside.others.items ++ t ∷ [] ≡ c.push_reserved.new.self.items = search rules in
     let marks = c.make_marks.new.marks.items in (
       subst (IsTable (offset_in c.insert.new.self) c.self.inside.first) is
-          (IsTable-push c.self.inside.index c.insert.new.self t key c.in_ok-insert.ensures.updates c.self.invariant.0
-            refl
+          (IsTable-push c.self.inside.index c.insert.new.self t key c.in_ok-insert.ensures.updates c.self.invariant.0 refl
           c.requires.near (rw c.self.view_is c.requires.absent) (rw c.self.view_is c.requires.later)),
       subst (AreMarked (slice_set marks c.mark_of.result 1)) is (marked_push marks c.self.inside.others.items t
           c.mark_of.result (c.mark_of.ensures.value ∙ ap mark_of (sym c.requires.wire.whole))

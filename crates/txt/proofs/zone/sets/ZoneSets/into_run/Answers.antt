@@ -26,5 +26,5 @@ returns-clause-sets c =
     let ranks = ranks_by key_cmp-total (λ (e : RrKey × Record RData). e.0) in
     let stable = c.in_ok-sort_by.ensures.stable is_below ranks (answers_always _ _ _ (λ f a r f' k. ap is_lt k.met)) in
     IfOk-weaker c.gather.result _ _ (λ run is. is
-      ∙ gathered_stable c.self.inside.entries.items c.sort_by.new.self.items stable
+    ∙ gathered_stable c.self.inside.entries.items c.sort_by.new.self.items stable
     ∙ c.self.view_is) c.gather.ensures.sets

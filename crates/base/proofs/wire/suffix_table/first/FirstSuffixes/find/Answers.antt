@@ -28,8 +28,7 @@ returns-then-is-2-clause-value c =
     let text = take inside.used inside.bytes in
     let es = take inside.count inside.all in
     sym (c.loop-entry.invariant ∙ found_entry text es c.loop-entry.entry-index none _ (omega arith)
-    ∙ found_first (stored_at text (get_or es c.loop-entry.entry-index none)) _ _
-      (c.is-in-loop-entry.ensures.0 c.if-is-2.true))
+    ∙ found_first (stored_at text (get_or es c.loop-entry.entry-index none)) _ _ (c.is-in-loop-entry.ensures.0 c.if-is-2.true))
 
 pub returns-then-is-clause-value : goal.returns-then-is-clause-value
 returns-then-is-clause-value c =
