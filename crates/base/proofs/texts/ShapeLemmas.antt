@@ -74,11 +74,7 @@ item_back rest (escaped c w others) ends =
 
 pub item_shape : (text word rest : List ℕ)
     → (item false text ≡ Some (word, rest)) ↔ ((text ≡ word ++ rest) × IsItem word × EndsItem rest)
-item_shape text word rest = (
-  item_there false text word rest,
-  λ found. ap (item false) found.0
-      ∙ item_back rest found.1 found.2,
-)
+item_shape text word rest = (item_there false text word rest, λ found. rw found.0 (item_back rest found.1 found.2))
 
 -- ---- quoted texts
 quoted_there : (kept : Bool) (text word rest : List ℕ) → quoted kept text ≡ Some (word, rest)
@@ -111,11 +107,7 @@ quoted_back rest (escaped c w others) = ap (λ (cut : Cut). before (92 ∷ []) (
 
 pub quoted_shape : (text word rest : List ℕ)
     → (quoted false text ≡ Some (word, rest)) ↔ ((text ≡ word ++ 34 ∷ rest) × IsQuoted word)
-quoted_shape text word rest = (
-  quoted_there false text word rest,
-  λ found. ap (quoted false) found.0
-      ∙ quoted_back rest found.1,
-)
+quoted_shape text word rest = (quoted_there false text word rest, λ found. rw found.0 (quoted_back rest found.1))
 
 -- ---- gaps within parentheses
 
