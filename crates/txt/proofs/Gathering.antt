@@ -6,7 +6,7 @@ use Rattle.std.specs.Cmp.{tied_itself}
 use Rattle.std.specs.List.{AllByRecursion, filter}
 use Rattle.std.specs.List.Sorted.{IsSortedBy, IsStrictlySortedBy, IsStableBy, ties}
 use Rattle.std.specs.Map.{keys_of, lookup}
-use Rattle.std.specs.Ordering.{is_lt, ordering_reverse}
+use Rattle.std.specs.Ordering.{is_lt}
 use Rattle.std.specs.Prelude.{◌≢◌, cond, is_some, ⊤}
 use Rattle.std.specs.declared.cmp.Ordering.{Ordering}
 use Rattle.std.specs.declared.cmp.Ordering.TheVariants.{Less, Equal, Greater}
@@ -160,9 +160,8 @@ ties_at : (a b : RrKey × Record RData) → ties is_below a b ≡ is_at (key_cmp
 ties_at a b = go (key_cmp a.0 b.0) refl where
   go : (o : Ordering) → key_cmp a.0 b.0 ≡ o → ties is_below a b ≡ is_at (key_cmp a.0) b.0
   go Less is = rw is refl
-  go Equal is = let back : key_cmp b.0 a.0 ≡ Equal = key_cmp-total.antisymm b.0 a.0 ∙ ap ordering_reverse is in
-      rw (is, back) refl
-  go Greater is = let back : key_cmp b.0 a.0 ≡ Less = flipped_back a.0 b.0 is in rw (is, back) refl
+  go Equal is = rw (is, key_cmp-total.antisymm b.0 a.0, is) refl
+  go Greater is = rw (is, flipped_back a.0 b.0 is) refl
 
 filters : (r : Record RData) (xs ys : KeyedRecords) → IsStableBy is_below xs ys → (key : RrKey)
     → filter (of_key key) ys ≡ filter (of_key key) xs

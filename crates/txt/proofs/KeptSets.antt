@@ -55,8 +55,7 @@ some_joined r (x ∷ xs) = λ none. let e : ⊥ = cc in e
 
 one_of : (r : Record RData) (xs : List (Record RData)) (b : Bool) → b ≡ true
     → length (joined r (if b then [] else xs)) ≤ 1
-one_of r xs true is = omega arith
-one_of r xs false is = absurd cc
+one_of r xs b is = rw is (omega arith)
 
 -- each record has the name of the set, before and after `insert`
 abbrev OwnOwner : NameValue → List (Record RData) → Type 0
