@@ -1,14 +1,13 @@
 -- The sets that records make don't depend on the order of records of other keys.
-use Rattle.std.proofs.Common.{◌≡◌, List, [], ◌∷◌, ◌++◌, ◌+◌, get_or, arith, suc, refl, ap, sym, ◌∙◌, subst, Bool, true}
-use Rattle.std.proofs.Common.{false, Some, None, Option, Ok}
-use Rattle.std.proofs.lemmas.Grind.{get_or_tail}
+use Rattle.std.proofs.Common.{◌≡◌, List, [], ◌∷◌, ◌++◌, ◌+◌, arith, suc, refl, ap, sym, ◌∙◌, subst, Bool, true, false}
+use Rattle.std.proofs.Common.{Some, None, Option, Ok}
 use Rattle.std.specs.BTreeMap.{insert_entry, is_at}
 use Rattle.std.specs.Cmp.{tied_itself}
 use Rattle.std.specs.List.{AllByRecursion, filter}
 use Rattle.std.specs.List.Sorted.{IsSortedBy, IsStrictlySortedBy, IsStableBy, ties}
 use Rattle.std.specs.Map.{keys_of, lookup}
-use Rattle.std.specs.Ordering.{is_eq, is_lt, ordering_reverse}
-use Rattle.std.specs.Prelude.{◌≢◌, Err, IfOk, OnOk, Result, cond, is_some, ⊤}
+use Rattle.std.specs.Ordering.{is_lt}
+use Rattle.std.specs.Prelude.{◌≢◌, cond, is_some, ⊤}
 use Rattle.std.specs.declared.cmp.Ordering.{Ordering}
 use Rattle.std.specs.declared.cmp.Ordering.TheVariants.{Less, Equal, Greater}
 use Rattle.base.proofs.names.KeyLemmas.{key_cmp-exact, key_cmp-total}
@@ -21,15 +20,25 @@ use Rattle.rr.specs.SetChanges.{insert}
 use Rattle.rr.specs.declared.record.Record.{Record}
 use Rattle.txt.specs.Gathered.{ComesAfter, HasLastKey, IsAscending, KeyedRecords, KnowsSoas, gathered, joined_set}
 use Rattle.txt.specs.Gathered.{with_all, with_keyed}
-use Rattle.txt.specs.ZoneSets.{AreKeyed, IsKeyed, ZoneSets, sets_with, added_to, set_at}
+use Rattle.txt.specs.ZoneSets.{AreKeyed, IsKeyed, ZoneSets, sets_with, set_at}
 use Rattle.rr.specs.Record.{record_key}
-use Rattle.txt.proofs.KeptSets.{insert_kept, new_kept, same_key}
-use Rattle.txt.proofs.SetsInOrder.{AreInOrder, IsAbove, flipped_back, found_last, inserted_after, kept_front, kept_last}
-use Rattle.txt.proofs.SetsInOrder.{kept_push, last_above, last_key, none_there, order_front, order_push, put_there}
-use Rattle.txt.proofs.SetsInOrder.{set_last}
+use Rattle.txt.proofs.KeptSets.{insert_kept, new_kept, same_key, append_all}
+use Rattle.txt.proofs.SetsInOrder.{AreInOrder, IsAbove, flipped_back, found_last, inserted_after, kept_last, last_above}
+use Rattle.txt.proofs.SetsInOrder.{last_key, none_there, order_front, order_push, put_there, set_last, none_before}
+use Rattle.txt.proofs.SetsInOrder.{front_all}
+use Rattle.std.proofs.lemmas.List.Elements.{filter_agree}
+use Rattle.std.proofs.lemmas.Bool.Decides.{nat_tests}
 
-own : (key : RrKey) → is_at (key_cmp key) key ≡ true
-own key = ap is_eq (tied_itself key_cmp-total key)
+swapped : {X : Type 0} (a b : Bool) → (a ≡ true → b ≡ true → ⊥) → (x y : Option X) (rest : Option X)
+    → cond a x (cond b y rest) ≡ cond b y (cond a x rest)
+swapped true true apart x y rest = absurd (apart refl refl)
+swapped true false apart x y rest = refl
+swapped false true apart x y rest = refl
+swapped false false apart x y rest = refl
+
+twice : {X : Type 0} (a : Bool) (x y rest : Option X) → cond a x rest ≡ cond a x (cond a y rest)
+twice true x y rest = refl
+twice false x y rest = refl
 
 -- what is found under a key after an entry was put under one
 pub lookup_put : {X : Type 0} (es : List (RrKey × X)) (key : RrKey) (v : X) (k : RrKey)
@@ -40,25 +49,13 @@ lookup_put {X} (e ∷ es) key v k = go (key_cmp key e.0) refl (lookup_put es key
   at : RrKey → Bool
   at = is_at (key_cmp k)
 
-  swapped : (a b : Bool) → (a ≡ true → b ≡ true → ⊥) → (x y : Option X) (rest : Option X)
-      → cond a x (cond b y rest) ≡ cond b y (cond a x rest)
-  swapped true true apart x y rest = absurd (apart refl refl)
-  swapped true false apart x y rest = refl
-  swapped false true apart x y rest = refl
-  swapped false false apart x y rest = refl
-
-  twice : (a b : Bool) → a ≡ b → (x y : Option X) (rest : Option X) → cond a x rest ≡ cond b x (cond a y rest)
-  twice true true same x y rest = refl
-  twice false false same x y rest = refl
-  twice true false same x y rest = absurd cc
-  twice false true same x y rest = absurd cc
-
   go : (o : Ordering) → key_cmp key e.0 ≡ o
       → lookup at (insert_entry key_cmp es key v) ≡ cond (at key) (Some v) (lookup at es)
       → lookup at (insert_entry key_cmp (e ∷ es) key v) ≡ cond (at key) (Some v) (lookup at (e ∷ es))
   go Less is again = rw is refl
-  go Equal is again = rw is (twice (at e.0) (at key) (ap at (sym (key_cmp-exact key e.0 is))) (Some v) (Some e.1)
-      (lookup at es))
+  go Equal is again =
+      let same : at e.0 ≡ at key = ap at (sym (key_cmp-exact key e.0 is)) in
+      rw (is, same) (twice (at key) (Some v) (Some e.1) (lookup at es))
   go Greater is again =
       let apart : at e.0 ≡ true → at key ≡ true → ⊥ = λ one other.
       (let same : key ≡ e.0 = sym (same_key k key other) ∙ same_key k e.0 one in
@@ -105,49 +102,34 @@ pub gathered_in_order : (es : KeyedRecords) → AreInOrder (gathered es)
 gathered_in_order es = order_all [] es none_in_order
 
 -- ---- sets in order are those that are found
-none_above : (es : ZoneSets) (key : RrKey) → AllByRecursion (λ q. key_cmp key q ≡ Less) (keys_of es)
-    → set_at es key ≡ None
-none_above [] key h = refl
-none_above (e ∷ es) key h = rw h.0 (none_above es key h.1)
+none_at : (e : RrKey × SetValue) (es : ZoneSets) → AreInOrder (e ∷ es) → (key : RrKey)
+    → is_at (key_cmp key) e.0 ≡ true → set_at es key ≡ None
+unfolding IsStrictlySortedBy
+none_at e es order key is = rw (same_key key e.0 is) (go es order.0) where
+  go : (fs : ZoneSets) → AllByRecursion (λ q. key_cmp e.0 q ≡ Less) (keys_of fs) → set_at fs e.0 ≡ None
+  go [] h = refl
+  go (f ∷ fs) h = rw h.0 (go fs h.1)
 
 found_first : (e : RrKey × SetValue) (es : ZoneSets) → set_at (e ∷ es) e.0 ≡ Some e.1
-found_first e es = rw (own e.0) refl
+found_first e es = rw (tied_itself key_cmp-total e.0) refl
 
 same_lookups : (xs ys : ZoneSets) → AreInOrder xs → AreInOrder ys → ((key : RrKey) → set_at xs key ≡ set_at ys key)
     → xs ≡ ys
 unfolding IsStrictlySortedBy
 same_lookups [] [] xo yo h = refl
-same_lookups [] (y ∷ ys) xo yo h = let no : None ≡ Some y.1 = h y.0 ∙ found_first y ys in absurd cc
-same_lookups (x ∷ xs) [] xo yo h = let no : Some x.1 ≡ None = sym (found_first x xs) ∙ h x.0 in absurd cc
-same_lookups (x ∷ xs) (y ∷ ys) xo yo h = go (key_cmp x.0 y.0) refl (same_lookups xs ys xo.1 yo.1) where
-  tails : x.0 ≡ y.0 → (key : RrKey) → set_at xs key ≡ set_at ys key
-  tails same key = go2 (is_at (key_cmp key) x.0) refl where
-    go2 : (b : Bool) → is_at (key_cmp key) x.0 ≡ b → set_at xs key ≡ set_at ys key
-    go2 true is =
-        let here : key ≡ x.0 = same_key key x.0 is in
-        ap (set_at xs) here ∙ none_above xs x.0 xo.0 ∙ sym (ap (set_at ys) (here ∙ same) ∙ none_above ys y.0 yo.0)
-    go2 false is =
-        let left : set_at (x ∷ xs) key ≡ set_at xs key = rw is refl in
-        let other : is_at (key_cmp key) y.0 ≡ false = ap (is_at (key_cmp key)) (sym same) ∙ is in
-        let right : set_at (y ∷ ys) key ≡ set_at ys key = rw other refl in
-        sym left ∙ h key ∙ right
-
-  go : (o : Ordering) → key_cmp x.0 y.0 ≡ o → (((key : RrKey) → set_at xs key ≡ set_at ys key) → xs ≡ ys)
-      → x ∷ xs ≡ y ∷ ys
-  go Less is again =
-      let no : Some x.1 ≡ None = sym (found_first x xs) ∙ h x.0
-      ∙ none_above (y ∷ ys) x.0 (is, below_all x.0 y.0 is (keys_of ys) yo.0) in absurd cc
+same_lookups [] (y ∷ ys) xo yo h = absurd (cc (h y.0, found_first y ys))
+same_lookups (x ∷ xs) [] xo yo h = absurd (cc (h x.0, found_first x xs))
+same_lookups ((k, a) ∷ xs) ((l, b) ∷ ys) xo yo h = go (key_cmp k l) refl (same_lookups xs ys xo.1 yo.1) where
+  go : (o : Ordering) → key_cmp k l ≡ o → (((key : RrKey) → set_at xs key ≡ set_at ys key) → xs ≡ ys)
+      → (k, a) ∷ xs ≡ (l, b) ∷ ys
+  go Less is again = absurd (cc (h k, found_first (k, a) xs, none_before k (l, b) ys yo is))
   go Greater is again =
-      let less = flipped_back x.0 y.0 is in
-      let no : None ≡ Some y.1 = sym (none_above (x ∷ xs) y.0 (less, below_all y.0 x.0 less (keys_of xs) xo.0)) ∙ h y.0
-      ∙ found_first y ys in absurd cc
+      absurd (cc (h l, found_first (l, b) ys, none_before l (k, a) xs xo (flipped_back k l is)))
   go Equal is again =
-      let same : x.0 ≡ y.0 = key_cmp-exact x.0 y.0 is in
-      let sets : Some x.1 ≡ Some y.1 = sym (found_first x xs) ∙ h x.0 ∙ ap (set_at (y ∷ ys)) same ∙ found_first y ys in
-      let rest : xs ≡ ys = again (tails same) in
-      let one : x.1 ≡ y.1 = cc in
-      ap (λ (k : RrKey). (k, x.1) ∷ xs) same ∙ ap (λ (set : SetValue). (y.0, set) ∷ xs) one
-      ∙ ap (λ (zs : ZoneSets). y ∷ zs) rest
+      let same : k ≡ l = key_cmp-exact k l is in
+      let one : a ≡ b = cc (h k, found_first (k, a) xs, found_first (l, b) ys) in
+      let others = again (λ key. grind (arith, nat_tests, h key, none_at (k, a) xs xo key, none_at (l, b) ys yo key)) in
+      cc
 
 -- ---- what is found
 joined_all : Option SetValue → KeyedRecords → Option SetValue
@@ -161,23 +143,14 @@ found_all : (sets : ZoneSets) (es : KeyedRecords) (key : RrKey)
     → set_at (with_all sets es) key ≡ joined_all (set_at sets key) (filter (of_key key) es)
 unfolding joined_all of_key
 found_all sets [] key = refl
-found_all sets (e ∷ es) key = found_all (with_keyed sets e) es key ∙ go (is_at (key_cmp key) e.0) refl where
-  put : set_at (with_keyed sets e) key ≡ cond (is_at (key_cmp key) e.0) (Some (joined_set (set_at sets e.0) e.1))
-      (set_at sets key)
-  put = lookup_put sets e.0 (joined_set (set_at sets e.0) e.1) key
-
-  go : (b : Bool) → is_at (key_cmp key) e.0 ≡ b
-      → joined_all (set_at (with_keyed sets e) key) (filter (of_key key) es) ≡ joined_all (set_at sets key)
-      (filter (of_key key) (e ∷ es))
-  go true is =
-      let here : set_at (with_keyed sets e) key ≡ Some (joined_set (set_at sets key) e.1) =
-      put ∙ ap (λ b. cond b (Some (joined_set (set_at sets e.0) e.1)) (set_at sets key)) is
-      ∙ ap (λ q. Some (joined_set (set_at sets q) e.1)) (sym (same_key key e.0 is)) in
-      ap (λ o. joined_all o (filter (of_key key) es)) here ∙ rw is refl
-  go false is =
-      let there : set_at (with_keyed sets e) key ≡ set_at sets key =
-      put ∙ ap (λ b. cond b (Some (joined_set (set_at sets e.0) e.1)) (set_at sets key)) is in
-      ap (λ o. joined_all o (filter (of_key key) es)) there ∙ rw is refl
+found_all sets (e ∷ es) key = found_all (with_keyed sets e) es key
+    ∙ rw (lookup_put sets e.0 (joined_set (set_at sets e.0) e.1) key) (go (is_at (key_cmp key) e.0) refl) where
+      go : (b : Bool) → is_at (key_cmp key) e.0 ≡ b
+          → joined_all (cond b (Some (joined_set (set_at sets e.0) e.1)) (set_at sets key)) (filter (of_key key) es)
+          ≡ joined_all (set_at sets key) (cond b (e ∷ filter (of_key key) es) (filter (of_key key) es))
+      go true is = ap (λ q. joined_all (Some (joined_set (set_at sets q) e.1)) (filter (of_key key) es))
+          (sym (same_key key e.0 is))
+      go false is = refl
 
 -- ---- records in another order
 abbrev pub is_below : RrKey × Record RData → RrKey × Record RData → Bool
@@ -187,22 +160,15 @@ ties_at : (a b : RrKey × Record RData) → ties is_below a b ≡ is_at (key_cmp
 ties_at a b = go (key_cmp a.0 b.0) refl where
   go : (o : Ordering) → key_cmp a.0 b.0 ≡ o → ties is_below a b ≡ is_at (key_cmp a.0) b.0
   go Less is = rw is refl
-  go Equal is = let back : key_cmp b.0 a.0 ≡ Equal = key_cmp-total.antisymm b.0 a.0 ∙ ap ordering_reverse is in
-      rw (is, back) refl
-  go Greater is = let back : key_cmp b.0 a.0 ≡ Less = flipped_back a.0 b.0 is in rw (is, back) refl
-
-filter_same : (p q : RrKey × Record RData → Bool) → ((e : RrKey × Record RData) → p e ≡ q e) → (es : KeyedRecords)
-    → filter p es ≡ filter q es
-filter_same p q same [] = refl
-filter_same p q same (e ∷ es) = ap (λ b. cond b (e ∷ filter p es) (filter p es)) (same e)
-    ∙ ap (λ zs. cond (q e) (e ∷ zs) zs) (filter_same p q same es)
+  go Equal is = rw (is, key_cmp-total.antisymm b.0 a.0, is) refl
+  go Greater is = rw (is, flipped_back a.0 b.0 is) refl
 
 filters : (r : Record RData) (xs ys : KeyedRecords) → IsStableBy is_below xs ys → (key : RrKey)
     → filter (of_key key) ys ≡ filter (of_key key) xs
 unfolding of_key
 filters r xs ys stable key =
-    filter_same (of_key key) (ties is_below (key, r)) (λ e. sym (ties_at (key, r) e)) ys ∙ stable (key, r)
-    ∙ filter_same (ties is_below (key, r)) (of_key key) (λ e. ties_at (key, r) e) xs
+    filter_agree (of_key key) (ties is_below (key, r)) (λ e. sym (ties_at (key, r) e)) ys ∙ stable (key, r)
+    ∙ filter_agree (ties is_below (key, r)) (of_key key) (λ e. ties_at (key, r) e) xs
 
 alike : (xs ys : KeyedRecords) → ((key : RrKey) → filter (of_key key) ys ≡ filter (of_key key) xs)
     → gathered ys ≡ gathered xs
@@ -241,36 +207,26 @@ new_last sets key r above =
     ∙ inserted_after sets key (set_of r) above
 
 -- ---- what a record makes of the sets
-keyed : (sets : ZoneSets) (key : RrKey) (r : Record RData) → key ≡ record_key r
-    → with_keyed sets (record_key r, r) ≡ with_keyed sets (key, r)
-keyed sets key r is = ap (λ (k : RrKey). with_keyed sets (k, r)) (sym is)
+added_new : (sets : ZoneSets) (r : Record RData) → set_at sets (record_key r) ≡ None
+    → sets_with sets r ≡ Ok (with_keyed sets (record_key r, r))
+added_new sets r none = rw none refl
 
-pub added_new : (sets : ZoneSets) (key : RrKey) (r : Record RData) → key ≡ record_key r → set_at sets key ≡ None
-    → sets_with sets r ≡ Ok (with_keyed sets (key, r))
-added_new sets key r is none =
-    let there : set_at sets (record_key r) ≡ None = ap (set_at sets) (sym is) ∙ none in
-    ap (added_to sets r) there ∙ ap (λ o. Ok (insert_entry key_cmp sets (record_key r) (joined_set o r))) (sym there)
-    ∙ ap Ok (keyed sets key r is)
-
-pub added_other : (sets : ZoneSets) (key : RrKey) (r : Record RData) → key ≡ record_key r
-    → is_soa (type_of_data r.rdata) ≡ false → AreInOrder sets
-    → sets_with sets r ≡ Ok (with_keyed sets (key, r))
-added_other sets key r is other order = go (set_at sets (record_key r)) refl where
-  go : (o : Option SetValue) → set_at sets (record_key r) ≡ o → sets_with sets r ≡ Ok (with_keyed sets (key, r))
-  go None none = added_new sets key r is (ap (set_at sets) is ∙ none)
+pub added_other : (sets : ZoneSets) (r : Record RData) → is_soa (type_of_data r.rdata) ≡ false → AreInOrder sets
+    → sets_with sets r ≡ Ok (with_keyed sets (record_key r, r))
+added_other sets r other order = go (set_at sets (record_key r)) refl where
+  go : (o : Option SetValue) → set_at sets (record_key r) ≡ o
+      → sets_with sets r ≡ Ok (with_keyed sets (record_key r, r))
+  go None none = added_new sets r none
   go (Some set) there =
-      let made : added_to sets r (Some set) ≡ Ok (insert_entry key_cmp sets (record_key r) (insert set r 0).1) =
-      rw other (ap Ok (sym (put_there sets (record_key r) set (insert set r 0).1 order there))) in
-      ap (added_to sets r) there ∙ made ∙ ap (λ o. Ok (insert_entry key_cmp sets (record_key r) (joined_set o r)))
-      (sym there) ∙ ap Ok (keyed sets key r is)
+      rw (there, other) (ap Ok (sym (put_there sets (record_key r) set (insert set r 0).1 order there)))
 
 none_of : {X : Type 0} (o : Option X) → is_some o ≡ false → o ≡ None
 none_of None is = refl
 none_of (Some x) is = absurd cc
 
-pub added_unknown : (sets : ZoneSets) (key : RrKey) (r : Record RData) → key ≡ record_key r
-    → is_some (set_at sets key) ≡ false → sets_with sets r ≡ Ok (with_keyed sets (key, r))
-added_unknown sets key r is none = added_new sets key r is (none_of (set_at sets key) none)
+pub added_unknown : (sets : ZoneSets) (r : Record RData) → is_some (set_at sets (record_key r)) ≡ false
+    → sets_with sets r ≡ Ok (with_keyed sets (record_key r, r))
+added_unknown sets r none = added_new sets r (none_of (set_at sets (record_key r)) none)
 
 -- ---- the keys of SOA records
 found_after : (es : KeyedRecords) (e : RrKey × Record RData) (key : RrKey)
@@ -324,7 +280,8 @@ joins run front key set new r is own_key changed kept order after made =
     record {
       sets = made ∙ ap (λ (s : SetValue). front ++ (key, s) ∷ []) changed ∙ sym (joined_last front key set r in_order)
           ∙ ap (λ (zs : ZoneSets). with_keyed zs (key, r)) (sym is);
-      kept = subst AreKeyed (sym made) (kept_push front key new (kept_front front ((key, set) ∷ []) there) one);
+      kept = subst AreKeyed (sym made) (append_all _ front ((key, new) ∷ []) (front_all _ front ((key, set) ∷ []) there)
+          (one, tt));
       ordered = subst AreInOrder (sym made) (order_push front key new (order_front front ((key, set) ∷ []) in_order)
           (last_above front key set in_order));
       last = subst (λ (zs : ZoneSets). HasLastKey zs key) (sym made) (last_key front (key, new));
@@ -339,7 +296,7 @@ follows run key set r own_key is above kept order after made =
     (subst (IsKeyed (record_key r)) (sym is) (new_kept r)) in
     record {
       sets = made ∙ ap (λ (s : SetValue). run ++ (key, s) ∷ []) is ∙ sym (new_last run key r above);
-      kept = subst AreKeyed (sym made) (kept_push run key set kept one);
+      kept = subst AreKeyed (sym made) (append_all _ run ((key, set) ∷ []) kept (one, tt));
       ordered = subst AreInOrder (sym made) (order_push run key set order above);
       last = subst (λ (zs : ZoneSets). HasLastKey zs key) (sym made) (last_key run (key, set));
     }
@@ -367,21 +324,8 @@ pub ascending : (es : KeyedRecords) → IsSortedBy is_below es → IsAscending e
 ascending [] sorted = tt
 ascending (e ∷ []) sorted = tt
 ascending (e ∷ f ∷ es) sorted = (
-  λ less. let below : true ≡ false = sym (ap is_lt less) ∙ sorted 0 e (omega arith) (omega arith) in cc,
+  λ less. cc (sorted 0 e (omega arith) (omega arith)),
   ascending (f ∷ es) (λ k d from to.
-      let high : get_or (f ∷ es) (k + 1) d ≡ get_or (e ∷ f ∷ es) (suc k + 1) d =
-      ap (λ i. get_or (f ∷ es) i d) (omega arith) ∙ sym (get_or_tail e (f ∷ es) (suc k + 1) d (omega arith)) in
-      let low : get_or (f ∷ es) k d ≡ get_or (e ∷ f ∷ es) (suc k) d =
-      ap (λ i. get_or (f ∷ es) i d) (omega arith) ∙ sym (get_or_tail e (f ∷ es) (suc k) d (omega arith)) in
-      ap (λ x. is_below x (get_or (f ∷ es) k d)) high ∙ ap (is_below (get_or (e ∷ f ∷ es) (suc k + 1) d)) low
-      ∙ sorted (suc k) d (omega arith) (omega (arith, to))),
+      let next : suc k + 1 ≡ suc (k + 1) = omega arith in
+      rw next at (sorted (suc k) d (omega arith) (omega (arith, to)))),
 )
-
-pub on_ok : {X E P Q : Type 0} (result : Result X E) → (P → Q) → OnOk result P → OnOk result Q
-on_ok (Ok x) f h = f h
-on_ok (Err e) f h = tt
-
-pub if_ok : {X E : Type 0} {P Q : X → Type 0} (result : Result X E) → ((x : X) → P x → Q x) → IfOk result P
-    → IfOk result Q
-if_ok (Ok x) f h = f x h
-if_ok (Err e) f h = tt

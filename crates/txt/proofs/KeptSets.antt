@@ -4,10 +4,7 @@ use Rattle.std.proofs.Common.{false}
 use Rattle.std.specs.BTreeMap.{is_at}
 use Rattle.std.specs.Bool.{beq}
 use Rattle.std.specs.List.{AllByRecursion, list_any}
-use Rattle.std.specs.Ordering.{is_eq}
 use Rattle.std.specs.Prelude.{◌&&◌, if◌then◌else◌}
-use Rattle.std.specs.declared.cmp.Ordering.{Ordering}
-use Rattle.std.specs.declared.cmp.Ordering.TheVariants.{Less, Equal, Greater}
 use Rattle.base.proofs.names.KeyLemmas.{key_cmp-exact}
 use Rattle.base.specs.names.Labels.{NameValue}
 use Rattle.base.specs.names.NameOrder.{folded, lowered, same_labels, same_name}
@@ -21,14 +18,12 @@ use Rattle.rr.specs.SetChanges.{MayEnter, beside, has_data_of, holds_one, insert
 use Rattle.rr.specs.declared.record.Record.{Record}
 use Rattle.txt.specs.ZoneSets.{IsKeyed}
 use Rattle.rr.specs.Record.{record_key}
+use Rattle.std.proofs.lemmas.Map.Views.{tells_apart}
+use Rattle.std.proofs.lemmas.Bool.Decides.{nat_tests}
 
 -- what ties is the same key
 pub same_key : (a b : RrKey) → is_at (key_cmp a) b ≡ true → a ≡ b
-same_key a b is = key_cmp-exact a b (equal (key_cmp a b) is) where
-  equal : (o : Ordering) → is_eq o ≡ true → o ≡ Equal
-  equal Equal is = refl
-  equal Less is = absurd cc
-  equal Greater is = absurd cc
+same_key a b is = tells_apart key_cmp-exact a b is
 
 -- names of one lower case are the same
 same_of_lower : (a b : NameValue) → lowered a ≡ lowered b → same_name a b ≡ true
@@ -60,8 +55,7 @@ some_joined r (x ∷ xs) = λ none. let e : ⊥ = cc in e
 
 one_of : (r : Record RData) (xs : List (Record RData)) (b : Bool) → b ≡ true
     → length (joined r (if b then [] else xs)) ≤ 1
-one_of r xs true is = omega arith
-one_of r xs false is = absurd cc
+one_of r xs b is = rw is (omega arith)
 
 -- each record has the name of the set, before and after `insert`
 abbrev OwnOwner : NameValue → List (Record RData) → Type 0
@@ -70,19 +64,18 @@ OwnOwner name = AllByRecursion (λ (x : Record RData). same_name x.name name ≡
 own_replaced : (name : NameValue) (r : Record RData) → same_name r.name name ≡ true → (xs : List (Record RData))
     → OwnOwner name xs → OwnOwner name (replaced r xs)
 own_replaced name r own [] all = tt
-own_replaced name r own (x ∷ xs) all = (one (has_data_of r x), own_replaced name r own xs all.1) where
-  one : (b : Bool) → same_name (if b then r else x).name name ≡ true
-  one true = own
-  one false = all.0
+own_replaced name r own (x ∷ xs) all =
+    (grind (arith, nat_tests, own, all.0), own_replaced name r own xs all.1)
 
-own_append : (name : NameValue) (xs ys : List (Record RData)) → OwnOwner name xs → OwnOwner name ys
-    → OwnOwner name (xs ++ ys)
-own_append name [] ys own more = more
-own_append name (x ∷ xs) ys own more = (own.0, own_append name xs ys own.1 more)
+-- what holds of both holds of all
+pub append_all : {X : Type 0} (P : X → Type 0) (xs ys : List X) → AllByRecursion P xs → AllByRecursion P ys
+    → AllByRecursion P (xs ++ ys)
+append_all P [] ys own more = more
+append_all P (x ∷ xs) ys own more = (own.0, append_all P xs ys own.1 more)
 
 own_joined : (name : NameValue) (r : Record RData) → same_name r.name name ≡ true → (xs : List (Record RData))
     → OwnOwner name xs → OwnOwner name (joined r xs)
-own_joined name r own xs all = own_append name (replaced r xs) _ (own_replaced name r own xs all)
+own_joined name r own xs all = append_all _ (replaced r xs) _ (own_replaced name r own xs all)
     (last (list_any (has_data_of r) xs)) where
       last : (b : Bool) → OwnOwner name (if b then [] else r ∷ [])
       last true = tt

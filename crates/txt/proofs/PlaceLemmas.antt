@@ -1,6 +1,6 @@
 -- Faults at their places.
-use Rattle.std.proofs.Common.{◌≡◌, ℕ, ◌≤◌, List, [], ◌∷◌, length, map, reverse, refl, ap, sym, ◌∙◌, arith}
-use Rattle.std.proofs.Common.{true, Some, Result, Err}
+use Rattle.std.proofs.Common.{◌≡◌, ℕ, ◌≤◌, List, [], ◌∷◌, length, map, reverse, refl, ap, sym, ◌∙◌, arith, true, Some}
+use Rattle.std.proofs.Common.{Result, Err}
 use Rattle.std.specs.Prelude.{nat_lt}
 use Rattle.std.proofs.lemmas.Bool.Decides.{nat_tests}
 use Rattle.std.proofs.lemmas.List.{append-nil, reverse-reverse}

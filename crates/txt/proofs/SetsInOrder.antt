@@ -1,6 +1,6 @@
 -- Sets in the order of their keys: what stands after them, the last one, and a run that goes into a map.
 use Rattle.std.proofs.Common.{◌≡◌, ◌-◌, [], ◌∷◌, ◌++◌, length, refl, ap, sym, ◌∙◌, subst, arith, append_assoc}
-use Rattle.std.proofs.Common.{length-append, suc, Some, None}
+use Rattle.std.proofs.Common.{length-append, suc, Some, None, List}
 use Rattle.std.proofs.lemmas.Map.{lookup-none}
 use Rattle.std.proofs.lemmas.Map.Entries.{lookup_tail, none_below_head}
 use Rattle.std.proofs.lemmas.Map.Keys.{sorted_tail}
@@ -18,6 +18,8 @@ use Rattle.base.specs.declared.rr_key.RrKey.{RrKey}
 use Rattle.rr.specs.RecordSet.{SetValue}
 use Rattle.txt.specs.Gathered.{HasLastKey}
 use Rattle.txt.specs.ZoneSets.{AreKeyed, IsKeyed, ZoneSets, set_at}
+use Rattle.std.proofs.lemmas.List.{map-append}
+use Rattle.txt.proofs.KeptSets.{append_all}
 
 abbrev pub AreInOrder : ZoneSets → Type 0
 AreInOrder sets = IsStrictlySortedBy key_cmp (keys_of sets)
@@ -32,39 +34,25 @@ pub flipped_back : (a b : RrKey) → key_cmp a b ≡ Greater → key_cmp b a ≡
 flipped_back a b greater = key_cmp-total.antisymm b a ∙ ap ordering_reverse greater
 
 -- ---- what holds of all
-front_keys : (P : RrKey → Type 0) (es fs : ZoneSets) → AllByRecursion P (keys_of (es ++ fs))
-    → AllByRecursion P (keys_of es)
-front_keys P [] fs h = tt
-front_keys P (e ∷ es) fs h = (h.0, front_keys P es fs h.1)
+pub front_all : {X : Type 0} (P : X → Type 0) (xs ys : List X) → AllByRecursion P (xs ++ ys) → AllByRecursion P xs
+front_all P [] ys h = tt
+front_all P (x ∷ xs) ys h = (h.0, front_all P xs ys h.1)
 
-back_keys : (P : RrKey → Type 0) (es fs : ZoneSets) → AllByRecursion P (keys_of (es ++ fs))
-    → AllByRecursion P (keys_of fs)
-back_keys P [] fs h = h
-back_keys P (e ∷ es) fs h = back_keys P es fs h.1
+back_all : {X : Type 0} (P : X → Type 0) (xs ys : List X) → AllByRecursion P (xs ++ ys) → AllByRecursion P ys
+back_all P [] ys h = h
+back_all P (x ∷ xs) ys h = back_all P xs ys h.1
 
-push_key : (P : RrKey → Type 0) (es : ZoneSets) (key : RrKey) (set : SetValue) → AllByRecursion P (keys_of es) → P key
-    → AllByRecursion P (keys_of (es ++ (key, set) ∷ []))
-push_key P [] key set h k = (k, tt)
-push_key P (e ∷ es) key set h k = (h.0, push_key P es key set h.1 k)
-
-pub kept_front : (es fs : ZoneSets) → AreKeyed (es ++ fs) → AreKeyed es
-kept_front [] fs h = tt
-kept_front (e ∷ es) fs h = (h.0, kept_front es fs h.1)
-
-pub kept_back : (es fs : ZoneSets) → AreKeyed (es ++ fs) → AreKeyed fs
-kept_back [] fs h = h
-kept_back (e ∷ es) fs h = kept_back es fs h.1
-
-pub kept_push : (es : ZoneSets) (key : RrKey) (set : SetValue) → AreKeyed es → IsKeyed key set
-    → AreKeyed (es ++ (key, set) ∷ [])
-kept_push [] key set h k = (k, tt)
-kept_push (e ∷ es) key set h k = (h.0, kept_push es key set h.1 k)
+keys_append : (es fs : ZoneSets) → keys_of (es ++ fs) ≡ keys_of es ++ keys_of fs
+keys_append es fs = map-append (λ (e : RrKey × SetValue). e.0) es fs
 
 -- ---- in order
 pub order_front : (es fs : ZoneSets) → AreInOrder (es ++ fs) → AreInOrder es
 unfolding IsStrictlySortedBy
 order_front [] fs h = tt
-order_front (e ∷ es) fs h = (front_keys (λ k. key_cmp e.0 k ≡ Less) es fs h.0, order_front es fs h.1)
+order_front (e ∷ es) fs h = (
+  front_all _ (keys_of es) (keys_of fs) (rw (keys_append es fs) at h.0),
+  order_front es fs h.1,
+)
 
 pub order_back : (es fs : ZoneSets) → AreInOrder (es ++ fs) → AreInOrder fs
 unfolding IsStrictlySortedBy
@@ -76,7 +64,7 @@ pub order_push : (es : ZoneSets) (key : RrKey) (set : SetValue) → AreInOrder e
 unfolding IsStrictlySortedBy
 order_push [] key set h k = (tt, tt)
 order_push (e ∷ es) key set h k = (
-  push_key (λ q. key_cmp e.0 q ≡ Less) es key set h.0 (flipped_back key e.0 k.0),
+  rw (keys_append es ((key, set) ∷ [])) (append_all _ (keys_of es) (key ∷ []) h.0 (flipped_back key e.0 k.0, tt)),
   order_push es key set h.1 k.1,
 )
 
@@ -85,7 +73,7 @@ pub last_above : (es : ZoneSets) (key : RrKey) (set : SetValue) → AreInOrder (
 unfolding IsStrictlySortedBy
 last_above [] key set h = tt
 last_above (e ∷ es) key set h = (
-  flipped e.0 key (back_keys (λ k. key_cmp e.0 k ≡ Less) es ((key, set) ∷ []) h.0).0,
+  flipped e.0 key (back_all _ (keys_of es) (key ∷ []) (rw (keys_append es ((key, set) ∷ [])) at h.0)).0,
   last_above es key set h.1,
 )
 
@@ -95,7 +83,8 @@ pub above_all : (k : RrKey) (es : ZoneSets) (key : RrKey) (set : SetValue) → A
 unfolding IsStrictlySortedBy
 above_all k [] key set h g = (g, tt)
 above_all k (e ∷ es) key set h g =
-    let below : key_cmp e.0 key ≡ Less = (back_keys (λ q. key_cmp e.0 q ≡ Less) es ((key, set) ∷ []) h.0).0 in
+    let below : key_cmp e.0 key ≡ Less = (back_all _ (keys_of es) (key ∷ [])
+    (rw (keys_append es ((key, set) ∷ [])) at h.0)).0 in
     (flipped e.0 k (key_cmp-total.trans e.0 key k below (flipped_back k key g)), above_all k es key set h.1 g)
 
 -- the last of a list, and those before it
@@ -105,9 +94,8 @@ split_last [] e is = absurd cc
 split_last (x ∷ []) e is = ([], cc)
 split_last (x ∷ y ∷ ys) e is =
     let at : length (x ∷ y ∷ ys) - 1 ≡ suc (length (y ∷ ys) - 1) = omega arith in
-    after (split_last (y ∷ ys) e (ap (slice_get (x ∷ y ∷ ys)) (sym at) ∙ is)) where
-      after : (front : ZoneSets) × (y ∷ ys ≡ front ++ e ∷ []) → (front : ZoneSets) × (x ∷ y ∷ ys ≡ front ++ e ∷ [])
-      after (front, split) = (x ∷ front, ap (λ (zs : ZoneSets). x ∷ zs) split)
+    let r = split_last (y ∷ ys) e (ap (slice_get (x ∷ y ∷ ys)) (sym at) ∙ is) in
+    (x ∷ r.0, cc r.1)
 
 last_of : (es : ZoneSets) (e : RrKey × SetValue) → slice_get (es ++ e ∷ []) (length (es ++ e ∷ []) - 1) ≡ Some e
 last_of [] e = refl
@@ -120,7 +108,7 @@ pub last_key : (front : ZoneSets) (e : RrKey × SetValue) → HasLastKey (front 
 last_key front e = λ x at. let same : Some e ≡ Some x = sym (last_of front e) ∙ at in cc
 
 -- the entry that stands after the others is the last one
-one_last : (fs front : ZoneSets) (e : RrKey × SetValue) (key : RrKey) (set : SetValue) → fs ≡ front ++ e ∷ []
+pub one_last : (fs front : ZoneSets) (e : RrKey × SetValue) (key : RrKey) (set : SetValue) → fs ≡ front ++ e ∷ []
     → slice_get fs (length fs - 1) ≡ Some (key, set)
     → fs ≡ front ++ (key, e.1) ∷ []
 one_last fs front e key set is at =
@@ -128,12 +116,6 @@ one_last fs front e key set is at =
     ∙ ap (λ (zs : ZoneSets). slice_get zs (length zs - 1)) (sym is) ∙ at in
     let one : e.0 ≡ key = cc in
     is ∙ ap (λ (k : RrKey). front ++ (k, e.1) ∷ []) one
-
--- the same of a run as it was lent
-pub last_run : (fs lent front : ZoneSets) (e : RrKey × SetValue) (key : RrKey) → lent ≡ fs → fs ≡ front ++ e ∷ []
-    → (set : SetValue) × (slice_get lent (length lent - 1) ≡ Some (key, set)) → fs ≡ front ++ (key, e.1) ∷ []
-last_run fs lent front e key same is at =
-    one_last fs front e key at.0 is (ap (λ (zs : ZoneSets). slice_get zs (length zs - 1)) (sym same) ∙ at.1)
 
 -- what is above the last one is above all of a list
 pub above_by_last : (k : RrKey) (es fs : ZoneSets) (e : RrKey × SetValue) → AreInOrder (es ++ fs)
@@ -165,12 +147,9 @@ pub set_last : (es : ZoneSets) (key : RrKey) (set new : SetValue) → IsAbove ke
 set_last [] key set new h = let own : key_cmp key key ≡ Equal = tied_itself key_cmp-total key in rw own refl
 set_last (e ∷ es) key set new h = rw h.0 (ap (λ (zs : ZoneSets). e ∷ zs) (set_last es key set new h.1))
 
-whole_of : (es fs : ZoneSets) (e : RrKey × SetValue) → es ++ (fs ++ e ∷ []) ≡ (es ++ fs) ++ e ∷ []
-whole_of es fs e = sym (append_assoc es fs (e ∷ []))
-
 -- ---- what the fields of the sets keep
 pub kept_last : (es fs : ZoneSets) (e : RrKey × SetValue) → AreKeyed (es ++ (fs ++ e ∷ [])) → IsKeyed e.0 e.1
-kept_last es fs e kept = (kept_back (es ++ fs) (e ∷ []) (subst AreKeyed (whole_of es fs e) kept)).0
+kept_last es fs e kept = (back_all _ (es ++ fs) (e ∷ []) (subst AreKeyed (sym (append_assoc es fs (e ∷ []))) kept)).0
 
 -- ---- a run that goes into a map
 -- a set goes before those above it
@@ -189,6 +168,12 @@ one_more_put run whole left e rest more order is last put =
     let above : AreInOrder (e ∷ whole) = order_back rest (e ∷ whole) (subst AreInOrder (sym all) order) in
     ap (λ (zs : ZoneSets). rest ++ zs) (put ∙ put_first whole e.0 e.1 above) ∙ all
 
+-- a key before the first is not there
+pub none_before : (key : RrKey) (e : RrKey × SetValue) (es : ZoneSets) → AreInOrder (e ∷ es) → key_cmp key e.0 ≡ Less
+    → set_at (e ∷ es) key ≡ None
+none_before key e es order less =
+    lookup-none (is_at (key_cmp key)) (e ∷ es) (none_below_head key_cmp-total key e es order less)
+
 -- a set under a key that is there takes the place of the one there
 pub put_there : (es : ZoneSets) (key : RrKey) (old new : SetValue) → AreInOrder es → set_at es key ≡ Some old
     → insert_entry key_cmp es key new ≡ set_value (is_at (key_cmp key)) es new
@@ -198,9 +183,7 @@ put_there (e ∷ es) key old new order there =
       go : (o : Ordering) → key_cmp key e.0 ≡ o
           → (set_at es key ≡ Some old → insert_entry key_cmp es key new ≡ set_value (is_at (key_cmp key)) es new)
           → insert_entry key_cmp (e ∷ es) key new ≡ set_value (is_at (key_cmp key)) (e ∷ es) new
-      go Less is again = let no : None ≡ Some old =
-          sym (lookup-none (is_at (key_cmp key)) (e ∷ es) (none_below_head key_cmp-total key e es order is)) ∙ there in
-          absurd cc
+      go Less is again = absurd (cc (there, none_before key e es order is))
       go Equal is again = rw is refl
       go Greater is again =
           let later = sym (lookup_tail (is_at (key_cmp key)) e es (ap is_eq is)) ∙ there in

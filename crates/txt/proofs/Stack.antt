@@ -1,70 +1,21 @@
 -- The stack of texts that are open, against the recursion over entries.
 use Rattle.std.proofs.Common.{Bor, ◌≡◌, ℕ, zero, suc, ◌+◌, ◌-◌, ◌<◌, ◌≤◌, List, [], ◌∷◌, ◌++◌, length, refl, ap, sym}
-use Rattle.std.proofs.Common.{◌∙◌}
-use Rattle.std.proofs.Common.{subst, arith, append_assoc, map, reverse, Option, Some, None, Result, Ok, Err}
+use Rattle.std.proofs.Common.{◌∙◌, arith, append_assoc, map, reverse, Option, Some, None, Result, Ok, Err}
 use Rattle.std.proofs.lemmas.List.{map-append, reverse-append}
-use Rattle.std.specs.Prelude.{option_map}
+use Rattle.std.specs.Prelude.{option_map, codes}
 use Rattle.std.specs.Str.{IsUtf8}
 use Rattle.std.specs.String.{string_bytes}
-use Rattle.std.specs.Prelude.{codes}
 use Rattle.base.specs.texts.TextFaults.{Fault, not_found, says}
 use Rattle.base.specs.texts.TokenList.{Placed, followed, symbol, symbols, whole_text}
 use Rattle.base.specs.texts.Tokens.{Unread, at, blank, char_data, eol, include, list, origin_sign, ttl_sign}
-use Rattle.base.specs.declared.record_type.RecordType.{RecordType}
 use Rattle.txt.specs.Cutting.{cut_off, entry_value, rest_of_body, rest_of_entry, rest_of_stop}
-use Rattle.txt.specs.Entries.{
-  Body,
-  Entry,
-  PlacedEntry,
-  Setting,
-  Settings,
-  Stop,
-  entries,
-  entries_of,
-  faulty_entry,
-  first_entry,
-  first_placed,
-  include_end,
-  include_entry,
-  items_after,
-  line_after,
-  line_by,
-  no_settings,
-  origin_entry,
-  owner_line,
-  refused,
-  setting_of,
-  ttl_entry,
-  typed,
-  untyped,
-  whole,
-  with_item,
-  with_setting,
-}
-use Rattle.txt.specs.Zone.{
-  PlacedFault,
-  Texts,
-  Within,
-  ZoneState,
-  apply,
-  carried,
-  data_in,
-  fault_here,
-  fold,
-  folded_text,
-  included,
-  made_within,
-  max_depth,
-  opened_text,
-  owned,
-  placed,
-  recorded,
-  restored,
-  settled,
-  stopped,
-  type_in,
-  ◌>>=◌,
-}
+use Rattle.txt.specs.Entries.{Body, Entry, PlacedEntry, Setting, Settings, Stop, entries, entries_of, faulty_entry}
+use Rattle.txt.specs.Entries.{first_entry, first_placed, include_end, include_entry, items_after, line_after, line_by}
+use Rattle.txt.specs.Entries.{no_settings, origin_entry, owner_line, refused, setting_of, ttl_entry, typed, untyped}
+use Rattle.txt.specs.Entries.{whole, with_item, with_setting}
+use Rattle.txt.specs.Zone.{PlacedFault, Texts, Within, ZoneState, apply, carried, data_in, fault_here, fold}
+use Rattle.txt.specs.Zone.{folded_text, included, made_within, max_depth, opened_text, owned, placed, recorded}
+use Rattle.txt.specs.Zone.{restored, settled, stopped, type_in, ◌>>=◌}
 use Rattle.txt.specs.Faults.{frame_opened}
 use Rattle.txt.specs.Places.{Position, fault_place, include_place, position}
 use Rattle.txt.specs.declared.zone.entry.Entry.{Entry as CutEntry}
@@ -119,16 +70,13 @@ after ((symbol ttl_sign, left) ∷ rest) = let most =
     item_le (λ word more. (ttl_entry word, more)) (λ word more. omega arith) rest in omega arith
 after (other ∷ rest) = omega arith
 
-placed_after : (from : List Placed) (found : Option (Entry × List Placed)) → IsAfter (length from) found
-    → (x : PlacedEntry × List Placed)
-    → option_map (λ (f : Entry × List Placed). ((f.0, from), f.1)) found ≡ Some x → length x.1 < length from
-placed_after from None is x same = absurd cc
-placed_after from (Some f) is x same =
-    let whole : ((f.0, from), f.1) ≡ x = cc in
-    subst (λ (rest : List Placed). length rest < length from) (ap (λ (y : PlacedEntry × List Placed). y.1) whole) is
-
 pub entries_shrink : Shrinks first_placed (λ from. length from)
-entries_shrink from found is = placed_after from (first_entry from) (after from) found is
+entries_shrink from found is = go (first_entry from) (after from) is where
+  go : (first : Option (Entry × List Placed)) → IsAfter (length from) first
+      → option_map (λ (f : Entry × List Placed). ((f.0, from), f.1)) first ≡ Some found
+      → length found.1 < length from
+  go None less same = absurd cc
+  go (Some f) less same = let whole : ((f.0, from), f.1) ≡ found = cc in rw (← whole) less
 
 -- the first entry, and then the others
 pub entries_are : (from : List Placed) → entries from ≡ followed entries (first_placed from)
@@ -138,41 +86,34 @@ entries_are from = listing_is first_placed (λ s. length s) entries_shrink from
 -- the same where the first entry is this
 entries_from : (from : List Placed) (found : Option (Entry × List Placed)) → first_entry from ≡ found
     → entries from ≡ followed entries (option_map (λ (f : Entry × List Placed). ((f.0, from), f.1)) found)
-entries_from from found is =
-    entries_are from ∙ ap (λ (x : Option (Entry × List Placed)). followed entries
-    (option_map (λ (f : Entry × List Placed). ((f.0, from), f.1)) x)) is
+entries_from from found is = rw (← is) (entries_are from)
 
 -- an entry opens no text
 abbrev pub OpensNone : CutEntry → Type 0
 OpensNone e = (name : Bor (List ℕ)) → e ≡ cut.Include name → ⊥
 
--- the first entry, of which this is made, and then the others, where it opens no text
-applied : (from to : List Placed) (within : Within) (text : List ℕ) (s : ZoneState) (e : CutEntry)
-    (made : Result ZoneState Fault) → OpensNone e → first_entry from ≡ Some (cut_off e to)
-    → apply s (entry_value e) ≡ made
-    → fold within text s (entries from) ≡ (placed (λ fault. position text (fault_place fault from)) made
+-- the first entry, and then the others, where it opens no text
+applied : (from to : List Placed) (within : Within) (text : List ℕ) (s : ZoneState) (e : CutEntry) → OpensNone e
+    → first_entry from ≡ Some (cut_off e to)
+    → fold within text s (entries from)
+    ≡ (placed (λ fault. position text (fault_place fault from)) (apply s (entry_value e))
     >>= λ t. fold within text t (entries (rest_of_entry (entry_value e) to)))
 unfolding fold
-applied from to within text s e made none is same =
-    ap (fold within text s) (entries_from from _ is) ∙ go e none
-    ∙ ap (λ (found : Result ZoneState Fault). placed (λ fault. position text (fault_place fault from)) found
-    >>= λ t. fold within text t (entries (rest_of_entry (entry_value e) to))) same where
-      go : (e : CutEntry) → OpensNone e → fold within text s
-          ((entry_value e, from) ∷ entries (rest_of_entry (entry_value e) to))
-          ≡ (placed (λ fault. position text (fault_place fault from)) (apply s (entry_value e))
-          >>= λ t. fold within text t (entries (rest_of_entry (entry_value e) to)))
-      go (cut.Include name) none = absurd (none name refl)
-      go other none = refl
+applied from to within text s e none is = ap (fold within text s) (entries_from from _ is) ∙ go e none where
+  go : (e : CutEntry) → OpensNone e
+      → fold within text s ((entry_value e, from) ∷ entries (rest_of_entry (entry_value e) to))
+      ≡ (placed (λ fault. position text (fault_place fault from)) (apply s (entry_value e))
+      >>= λ t. fold within text t (entries (rest_of_entry (entry_value e) to)))
+  go (cut.Include name) none = absurd (none name refl)
+  go other none = refl
 
--- the entry that opens a text, which this is made in, and then the others
+-- the entry that opens a text, and then the others
 opens : (from to : List Placed) (within : Within) (text : List ℕ) (s : ZoneState) (name : List ℕ)
-    (made : Result ZoneState PlacedFault) → first_entry from ≡ Some (include_entry name, to)
-    → within s name (position text (include_place from)) ≡ made
-    → fold within text s (entries from) ≡ (made >>= λ t. fold within text t (entries to))
+    → first_entry from ≡ Some (include_entry name, to)
+    → fold within text s (entries from)
+    ≡ (within s name (position text (include_place from)) >>= λ t. fold within text t (entries to))
 unfolding fold
-opens from to within text s name made is same =
-    ap (fold within text s) (entries_from from _ is)
-    ∙ ap (λ (found : Result ZoneState PlacedFault). found >>= λ t. fold within text t (entries to)) same
+opens from to within text s name is = ap (fold within text s) (entries_from from _ is)
 
 ends : (from : List Placed) (within : Within) (text : List ℕ) (s : ZoneState) → first_entry from ≡ None
     → fold within text s (entries from) ≡ Ok s
@@ -183,26 +124,20 @@ ends from within text s is = ap (fold within text s) (entries_from from _ is)
 reads_on : (s t : ZoneState) (e : Entry) (to : List Placed) → apply s e ≡ Ok t → rest_of_entry e to ≡ to
 unfolding apply
 reads_on s t (owner_line owner stated body) to is = line (owned s owner) body is where
-  stop : (u : ZoneState) (end : Stop) (f : ZoneState → Result ZoneState Fault) → (stopped u end >>= f) ≡ Ok t
-      → rest_of_stop end to ≡ to
-  stop u whole f is = refl
-  stop u (refused other) f is = absurd cc
-
-  typed_on : (u : ZoneState) (type : Result RecordType Fault) (items : List (List ℕ)) (end : Stop)
-      → (type >>= λ type. stopped u end >>= λ v. data_in v type items >>= λ d. recorded v d) ≡ Ok t
-      → rest_of_stop end to ≡ to
-  typed_on u (Err fault) items end is = absurd cc
-  typed_on u (Ok type) items end is = stop u end (λ v. data_in v type items >>= λ d. recorded v d) is
-
-  untyped_on : (u : ZoneState) (end : Stop) → stopped u end ≡ Ok t → rest_of_stop end to ≡ to
-  untyped_on u whole is = refl
-  untyped_on u (refused other) is = absurd cc
+  typed_on : {A : Type 0} (type : Result A Fault) (u : ZoneState) (end : Stop)
+      (f : A → ZoneState → Result ZoneState Fault)
+      → (type >>= λ a. stopped u end >>= f a) ≡ Ok t → rest_of_stop end to ≡ to
+  typed_on type u whole f is = refl
+  typed_on (Err fault) u (refused other) f is = absurd cc
+  typed_on (Ok a) u (refused other) f is = absurd cc
 
   line : (made : Result ZoneState Fault) (body : Body) → (made >>= λ u. carried (settled u stated) body) ≡ Ok t
       → rest_of_body body to ≡ to
   line (Err fault) body is = absurd cc
-  line (Ok u) (untyped end) is = untyped_on (settled u stated) end is
-  line (Ok u) (typed word items end) is = typed_on (settled u stated) (type_in (settled u stated) word) items end is
+  line (Ok u) (untyped whole) is = refl
+  line (Ok u) (untyped (refused other)) is = absurd cc
+  line (Ok u) (typed word items end) is = typed_on (type_in (settled u stated) word) (settled u stated) end
+      (λ type v. data_in v type items >>= λ d. recorded v d) is
 reads_on s t (faulty_entry other) to is = absurd cc
 reads_on s t other to is = refl
 
@@ -233,10 +168,7 @@ pub under_is : (fs : List Frame) (found : PlacedFault)
 under_is [] found = refl
 under_is (f ∷ fs) found =
     under_is fs (record found { opened = frame_opened f ∷ found.opened })
-    ∙ ap (λ (opened : List (List ℕ × ℕ)). record found { opened = opened })
-    (sym (ap (λ (gs : List Frame). map frame_opened gs ++ found.opened) (reverse-append (f ∷ []) fs)
-    ∙ ap (λ (more : List (List ℕ × ℕ)). more ++ found.opened) (map-append frame_opened (reverse fs) (f ∷ []))
-    ∙ append_assoc (map frame_opened (reverse fs)) (frame_opened f ∷ []) found.opened))
+    ∙ simp (reverse-append (f ∷ []) fs, map-append, append_assoc)
 
 finish-err : (texts : Texts) (max : ℕ) (fs : List Frame) (found : PlacedFault)
     → finish texts max fs (Err found) ≡ Err (under fs found)
@@ -244,20 +176,20 @@ finish-err texts max [] found = refl
 finish-err texts max (f ∷ fs) found = finish-err texts max fs
     (record found { opened = frame_opened f ∷ found.opened })
 
-included_zero : (texts : Texts) (s : ZoneState) (name : List ℕ) (place : Position)
-    → included texts zero s name place ≡ Err (fault_here place
-    (says (codes "Max depth level for nested $INCLUDE is reached")))
-unfolding included
-included_zero texts s name place = refl
-
-included_suc : (texts : Texts) (room : ℕ) (s : ZoneState) (name : List ℕ) (place : Position) (text : Option (List ℕ))
-    → texts name ≡ text
-    → included texts (suc room) s name place ≡ opened_text (included texts room) s name place text
-unfolding included
-included_suc texts room s name place text is = ap (opened_text (included texts room) s name place) is
-
 room_is : (max n : ℕ) → n < max → max - n ≡ suc (max - suc n)
 room_is max n less = omega arith
+
+included_none : (texts : Texts) (max n : ℕ) (s : ZoneState) (name : List ℕ) (place : Position) → max ≤ n
+    → included texts (max - n) s name place
+    ≡ Err (fault_here place (says (codes "Max depth level for nested $INCLUDE is reached")))
+unfolding included
+included_none texts max n s name place deep = let none : max - n ≡ zero = omega arith in rw none refl
+
+included_one : (texts : Texts) (max n : ℕ) (s : ZoneState) (name : List ℕ) (place : Position) (text : Option (List ℕ))
+    → n < max → texts name ≡ text → included texts (max - n) s name place
+    ≡ opened_text (included texts (max - suc n)) s name place text
+unfolding included
+included_one texts max n s name place text less is = rw (room_is max n less, is) refl
 
 -- What is left to do comes to this. Each text is one, in UTF-8.
 pub record Remains (texts : Texts) (max : ℕ) (fs : List Frame) (text : List ℕ) (s : ZoneState) (unread : Unread)
@@ -284,9 +216,8 @@ module _ {texts : Texts} {max : ℕ} {fs : List Frame} {text : List ℕ} {s : Zo
       → Remains texts max fs text t rest zone
   remains_went t rest e none is made = record {
     whole = ap (finish texts max fs)
-        (ap (λ (to : List Placed). fold (Rest texts max fs) text t (entries to))
-        (sym (reads_on s t (entry_value e) (symbols rest) made))
-        ∙ sym (applied (symbols unread) (symbols rest) (Rest texts max fs) text s e (Ok t) none is made)) ∙ r.whole;
+        (sym (rw (made, reads_on s t (entry_value e) (symbols rest) made) at
+        (applied (symbols unread) (symbols rest) (Rest texts max fs) text s e none is))) ∙ r.whole;
     depth = r.depth;
     utf8 = r.utf8;
   }
@@ -296,8 +227,7 @@ module _ {texts : Texts} {max : ℕ} {fs : List Frame} {text : List ℕ} {s : Zo
       → zone ≡ Err (under fs (fault_here (position text (fault_place fault (symbols unread))) fault))
   remains_fails to e fault none is made =
       sym r.whole ∙ ap (finish texts max fs)
-      (applied (symbols unread) to (Rest texts max fs) text s e (Err fault) none is made)
-      ∙ finish-err texts max fs _
+      (rw made at (applied (symbols unread) to (Rest texts max fs) text s e none is)) ∙ finish-err texts max fs _
 
   -- the end of the first text
   pub remains_none : fs ≡ [] → first_entry (symbols unread) ≡ None → zone ≡ Ok s
@@ -323,26 +253,22 @@ module _ {texts : Texts} {max : ℕ} {fs : List Frame} {text : List ℕ} {s : Zo
       → included texts (max - length fs) s name (position text (include_place (symbols unread))) ≡ made
       → finish texts max fs (made >>= λ t. fold (Rest texts max fs) text t (entries to)) ≡ zone
   opening name to made is same =
-      ap (finish texts max fs) (sym (opens (symbols unread) to (Rest texts max fs) text s name made is same)) ∙ r.whole
+      ap (finish texts max fs) (sym (rw same at (opens (symbols unread) to (Rest texts max fs) text s name is)))
+      ∙ r.whole
 
   pub remains_deep : (name : List ℕ) (to : List Placed)
       → first_entry (symbols unread) ≡ Some (include_entry name, to) → max ≤ length fs
       → zone ≡ Err (under fs (fault_here (position text (include_place (symbols unread)))
       (says (codes "Max depth level for nested $INCLUDE is reached"))))
   remains_deep name to is deep =
-      let none : max - length fs ≡ zero = omega arith in
-      sym (opening name to _ is
-      (ap (λ (room : ℕ). included texts room s name (position text (include_place (symbols unread)))) none
-      ∙ included_zero texts s name _)) ∙ finish-err texts max fs _
+      sym (opening name to _ is (included_none texts max (length fs) s name _ deep)) ∙ finish-err texts max fs _
 
   pub remains_missing : (name : List ℕ) (to : List Placed)
       → first_entry (symbols unread) ≡ Some (include_entry name, to) → length fs < max → texts name ≡ None
       → zone ≡ Err (under fs (fault_here (position text (include_place (symbols unread))) (not_found name)))
   remains_missing name to is room missing =
-      sym (opening name to _ is
-      (ap (λ (n : ℕ). included texts n s name (position text (include_place (symbols unread))))
-      (room_is max (length fs) room)
-      ∙ included_suc texts (max - suc (length fs)) s name _ None missing)) ∙ finish-err texts max fs _
+      sym (opening name to _ is (included_one texts max (length fs) s name _ None room missing))
+      ∙ finish-err texts max fs _
 
   pub remains_opened : (f : Frame) (inner : List ℕ) (gs : List Frame) (rest : Unread)
       → gs ≡ f ∷ fs → rest ≡ whole_text inner → f.text.now ≡ text
@@ -358,9 +284,7 @@ module _ {texts : Texts} {max : ℕ} {fs : List Frame} {text : List ℕ} {s : Zo
         (made_within (string_bytes f.name, (position text (include_place (symbols unread))).line) made)
         (λ t. Ok (restored s.origin t)) on))
         ∙ opening (string_bytes f.name) (symbols f.lexer) _ is
-        (ap (λ (n : ℕ). included texts n s (string_bytes f.name) (position text (include_place (symbols unread))))
-        (room_is max (length fs) room)
-        ∙ included_suc texts (max - suc (length fs)) s (string_bytes f.name) _ (Some inner) found));
+        (included_one texts max (length fs) s (string_bytes f.name) _ (Some inner) room found));
     depth = omega arith;
     utf8 = utf8;
   })
@@ -421,16 +345,13 @@ work_back texts max fs f unread = omega (
 cost_in_is : (texts : Texts) (max n : ℕ) (name text : List ℕ) → n < max → texts name ≡ Some text
     → cost_in texts (max - n) name ≡ cost (cost_in texts (max - suc n)) (entries_of (whole_text text))
 unfolding cost_in
-cost_in_is texts max n name text less found =
-    ap (λ (room : ℕ). cost_in texts room name) (room_is max n less)
-    ∙ ap (cost_opened (cost_in texts (max - suc n))) found
+cost_in_is texts max n name text less found = rw (room_is max n less, found) refl
 
-pub work_opened : {name text : List ℕ} (texts : Texts) (max : ℕ) (fs : List Frame) (f : Frame) (unread : Unread)
-    → first_entry (symbols unread) ≡ Some (include_entry name, symbols f.lexer) → length fs < max
-    → texts name ≡ Some text → work texts max (f ∷ fs) (whole_text text) < work texts max fs unread
-work_opened {name} {text} texts max fs f unread is room found =
-    omega (
-      arith,
-      ap (cost (cost_in texts (max - length fs))) (entries_from (symbols unread) _ is),
-      cost_in_is texts max (length fs) name text room found,
-    )
+pub work_opened : {name text : List ℕ} (texts : Texts) (max : ℕ) (fs gs : List Frame) (f : Frame) (unread : Unread)
+    → gs ≡ f ∷ fs → first_entry (symbols unread) ≡ Some (include_entry name, symbols f.lexer) → length fs < max
+    → texts name ≡ Some text → work texts max gs (whole_text text) < work texts max fs unread
+work_opened {name} {text} texts max fs gs f unread below is room found = rw below (omega (
+  arith,
+  ap (cost (cost_in texts (max - length fs))) (entries_from (symbols unread) _ is),
+  cost_in_is texts max (length fs) name text room found,
+))

@@ -1,19 +1,18 @@
 -- The included texts of a map, as a list of names and texts.
-use Rattle.std.proofs.Common.{◌≡◌, ℕ, List, [], ◌∷◌, refl, ap, sym, ◌∙◌, map, Bool, true, false, Option, Some}
-use Rattle.std.proofs.Common.{None, Result, Err}
+use Rattle.std.proofs.Common.{◌≡◌, ℕ, List, [], ◌∷◌, refl, ap, sym, ◌∙◌, map, Bool, true, false, Option, Some, None}
+use Rattle.std.proofs.Common.{Result, Err}
 use Rattle.std.specs.BTreeMap.{BTreeMap, is_at}
 use Rattle.std.specs.Cmp.Lexicographic.{slice_cmp}
 use Rattle.std.specs.Map.{lookup}
 use Rattle.std.specs.Ordering.{nat_cmp}
-use Rattle.std.specs.Prelude.{String, option_map}
+use Rattle.std.specs.Prelude.{String, option_map, cond}
 use Rattle.std.specs.String.{string_bytes}
 use Rattle.std.specs.declared.alloc.Global.{Global}
 use Rattle.base.specs.names.Labels.{NameValue}
 use Rattle.base.specs.texts.TextFaults.{Fault, fault_of}
 use Rattle.txt.specs.Parser.{ParserValue, named_texts, text_among, texts_in}
 use Rattle.txt.specs.Faults.{FailsAt, FailsAtPlace}
-use Rattle.txt.specs.Zone.{PlacedFault, ZoneState, Texts, beginning, folded_text, parsed_of}
-use Rattle.txt.specs.Zone.{placed_zone_by}
+use Rattle.txt.specs.Zone.{PlacedFault, ZoneState, Texts, beginning, folded_text, parsed_of, placed_zone_by}
 use Rattle.txt.specs.declared.zone.fault.FaultPlace.{FaultPlace}
 use Rattle.txt.specs.declared.zone.fault.ZoneFault.{ZoneFault}
 
@@ -22,17 +21,11 @@ found : (name : List ℕ) (es : List (String Global × String Global))
     ≡ lookup (is_at (slice_cmp nat_cmp name))
     (map (λ (e : String Global × String Global). (string_bytes e.0, string_bytes e.1)) es)
 found name [] = refl
-found name (e ∷ es) = go (is_at (slice_cmp nat_cmp name) (string_bytes e.0)) refl (found name es) where
-  go : (b : Bool) → is_at (slice_cmp nat_cmp name) (string_bytes e.0) ≡ b
-      → option_map string_bytes (lookup (is_at (λ (k : String Global). slice_cmp nat_cmp name (string_bytes k))) es)
-      ≡ lookup (is_at (slice_cmp nat_cmp name))
-      (map (λ (e : String Global × String Global). (string_bytes e.0, string_bytes e.1)) es)
-      → option_map string_bytes (lookup (is_at (λ (k : String Global). slice_cmp nat_cmp name (string_bytes k)))
-      (e ∷ es))
-      ≡ lookup (is_at (slice_cmp nat_cmp name))
-      (map (λ (e : String Global × String Global). (string_bytes e.0, string_bytes e.1)) (e ∷ es))
-  go true is again = rw is refl
-  go false is again = rw is again
+found name (e ∷ es) = go (is_at (slice_cmp nat_cmp name) (string_bytes e.0)) _ _ (found name es) where
+  go : (b : Bool) (x : Option (String Global)) (y : Option (List ℕ)) → option_map string_bytes x ≡ y
+      → option_map string_bytes (cond b (Some e.1) x) ≡ cond b (Some (string_bytes e.1)) y
+  go true x y same = refl
+  go false x y same = same
 
 -- the texts that a map holds are those of its list
 pub texts_are : (includes : BTreeMap (String Global) (String Global))

@@ -4,31 +4,9 @@ use Rattle.std.specs.Borrow.{Bor}
 use Rattle.std.specs.String.{string_bytes}
 use Rattle.base.specs.texts.TokenList.{Placed, Symbol, broken, first_place, symbol}
 use Rattle.base.specs.texts.Tokens.{lent_value}
-use Rattle.txt.specs.Entries.{
-  Body,
-  Entry,
-  Owner,
-  Setting,
-  Settings,
-  Stop,
-  at_origin,
-  class_is,
-  faulty_entry,
-  include_entry,
-  include_under,
-  named,
-  nothing,
-  origin_entry,
-  owner_line,
-  refused,
-  same,
-  ttl_entry,
-  ttl_is,
-  typed,
-  untyped,
-  whole,
-  with_item,
-}
+use Rattle.txt.specs.Entries.{Body, Entry, Owner, Setting, Settings, Stop, at_origin, class_is, faulty_entry}
+use Rattle.txt.specs.Entries.{include_entry, include_under, named, nothing, origin_entry, owner_line, refused, same}
+use Rattle.txt.specs.Entries.{ttl_entry, ttl_is, typed, untyped, whole, with_item}
 use Rattle.txt.specs.declared.zone.entry.Body.{Body as CutBody}
 use Rattle.txt.specs.declared.zone.entry.Body.TheVariants as bodies
 use Rattle.txt.specs.declared.zone.entry.Entry.{Entry as CutEntry}

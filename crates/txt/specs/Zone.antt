@@ -15,30 +15,9 @@ use Rattle.base_data.specs.Generic.{any_data, any_type}
 use Rattle.base_data.specs.Kinds.{data_of}
 use Rattle.base_data.specs.declared.rdata.RData.{RData}
 use Rattle.rr.specs.declared.record.Record.{Record}
-use Rattle.txt.specs.Entries.{
-  Body,
-  Entry,
-  Owner,
-  PlacedEntry,
-  Settings,
-  Stop,
-  at_origin,
-  entries_of,
-  fault_at,
-  faulty_entry,
-  include_entry,
-  include_under,
-  named,
-  nothing,
-  origin_entry,
-  owner_line,
-  refused,
-  same,
-  ttl_entry,
-  typed,
-  untyped,
-  whole,
-}
+use Rattle.txt.specs.Entries.{Body, Entry, Owner, PlacedEntry, Settings, Stop, at_origin, entries_of, fault_at}
+use Rattle.txt.specs.Entries.{faulty_entry, include_entry, include_under, named, nothing, origin_entry, owner_line}
+use Rattle.txt.specs.Entries.{refused, same, ttl_entry, typed, untyped, whole}
 use Rattle.txt.specs.Places.{Position, fault_place, include_place, position}
 use Rattle.txt.specs.ZoneSets.{ZoneSets, sets_with}
 

@@ -1,40 +1,32 @@
 -- The first character of a text is the piece of it that is a character.
-use Rattle.std.proofs.Common.{◌≡◌, ℕ, ◌+◌, ◌-◌, ◌*◌, List, [], ◌∷◌, ◌++◌, refl, ap, ◌∙◌, subst, arith, Bool, true}
-use Rattle.std.proofs.Common.{false, Option, Some, None}
+use Rattle.std.proofs.Common.{◌≡◌, ℕ, ◌+◌, ◌-◌, ◌*◌, List, [], ◌∷◌, ◌++◌, refl, ap, ◌∙◌, arith, Bool, true, false, Some}
+use Rattle.std.proofs.Common.{Option}
 use Rattle.std.specs.Prelude.{◌==◌, ◌&&◌, nat_lt, nat_le}
 use Rattle.std.specs.Char.{is_ascii_digit}
-use Rattle.std.specs.Cmp.{first_so, second_so}
 use Rattle.std.proofs.lemmas.Bool.{eqb-true, eqb-false}
 use Rattle.std.proofs.lemmas.Bool.Decides.{nat_tests}
 use Rattle.base.specs.texts.NameText.{Character, AreCharsOf, more, IsCharText, is_dot, is_printable, is_escaped}
 use Rattle.base.specs.texts.NameText.{is_number, decimal_char, escaped_char, first_char}
 
--- the parts of one first character
-pub same_first : {c d : Character} {r r' : List ℕ} → ◌≡◌ {A = Option (Character × List ℕ)} (Some (c, r)) (Some (d, r'))
-    → (c ≡ d) × (r ≡ r')
-same_first {c} {d} {r} {r'} h =
-    let pair : ◌≡◌ {A = Character × List ℕ} (c, r) (d, r') = cc in
-    (ap (λ (p : Character × List ℕ). p.0) pair, ap (λ (p : Character × List ℕ). p.1) pair)
+-- the parts of one first character, or of another pair
+pub same_first : {A B : Type 0} {x y : A × B} → Some x ≡ Some y → (x.0 ≡ y.0) × (x.1 ≡ y.1)
+same_first {A} {B} {x} {y} h =
+    let pair : x ≡ y = cc in
+    (ap (λ (p : A × B). p.0) pair, ap (λ (p : A × B). p.1) pair)
 
 -- what a piece is, before the rest
 pub first_of_piece : {piece rest text : List ℕ} {c : Character} → IsCharText piece c → text ≡ piece ++ rest
     → first_char text ≡ Some (c, rest)
 unfolding first_char escaped_char decimal_char
-first_of_piece {rest = rest} (is_dot e) is = ap first_char (is ∙ ap (λ (p : List ℕ). p ++ rest) e)
-first_of_piece {rest = rest} (is_printable {b} e low high dot backslash) is =
-    let no_backslash : (b == 92) ≡ false = grind (arith, nat_tests) in
-    let no_dot : (b == 46) ≡ false = grind (arith, nat_tests) in
-    let shown : nat_le 33 b && nat_le b 126 ≡ true = grind (arith, nat_tests) in
-    ap first_char (is ∙ ap (λ (p : List ℕ). p ++ rest) e) ∙ rw (no_backslash, no_dot, shown) refl
-first_of_piece {rest = rest} (is_escaped {b} e ascii digit) is =
-    let small : nat_lt b 128 ≡ true = grind (arith, nat_tests) in
-    ap first_char (is ∙ ap (λ (p : List ℕ). p ++ rest) e) ∙ rw (digit, small) refl
-first_of_piece {rest = rest} (is_number {x} {y} {z} {b} e decimal) is =
+first_of_piece (is_dot e) is = rw (is, e) refl
+first_of_piece (is_printable e low high dot backslash) is = rw (is, e) (grind (arith, nat_tests))
+first_of_piece (is_escaped e ascii digit) is = rw (is, e) (grind (arith, nat_tests))
+first_of_piece (is_number e decimal) is =
     let first = decimal.first in
     let second = decimal.second in
     let third = decimal.third in
-    let small : nat_lt b 256 ≡ true = let byte = decimal.byte in grind (arith, nat_tests) in
-    ap first_char (is ∙ ap (λ (p : List ℕ). p ++ rest) e) ∙ rw (first, second, third, ← decimal.is, small) refl
+    let small = decimal.byte in
+    rw (is, e) (rw (first, second, third, ← decimal.is) (grind (arith, nat_tests)))
 
 -- a piece, and the text after it
 record Piece (front text : List ℕ) (c : Character) (rest : List ℕ) : Type 0 where
@@ -42,53 +34,39 @@ record Piece (front text : List ℕ) (c : Character) (rest : List ℕ) : Type 0 
   spells : IsCharText (front ++ piece) c
   is : text ≡ piece ++ rest
 
-no_char : {r : Character × List ℕ} → None ≡ Some r → ⊥
-no_char h = cc
-
 -- a piece that is this character
 piece_is : {front text rest : List ℕ} {c d : Character} (piece after : List ℕ) → IsCharText (front ++ piece) d
-    → text ≡ piece ++ after
-    → ◌≡◌ {A = Option (Character × List ℕ)} (Some (d, after)) (Some (c, rest)) → Piece front text c rest
-piece_is {front} {text} {rest} {c} {d} piece after spells is found =
+    → text ≡ piece ++ after → ◌≡◌ {A = Option (Character × List ℕ)} (Some (d, after)) (Some (c, rest))
+    → Piece front text c rest
+piece_is piece after spells is found =
     let same = same_first found in
-    record {
-      piece = piece;
-      spells = subst (IsCharText (front ++ piece)) same.0 spells;
-      is =
-          is ∙ ap (λ (r : List ℕ). piece ++ r) same.1;
-    }
+    rw (← same.0, ← same.1) (record { piece = piece; spells = spells; is = is })
 
 decimal_piece : (x : ℕ) (text : List ℕ) (c : Character) (rest : List ℕ) → is_ascii_digit x ≡ true
     → decimal_char x text ≡ Some (c, rest) → Piece (92 ∷ x ∷ []) text c rest
 unfolding decimal_char
-decimal_piece x [] c rest digit h = absurd (no_char h)
-decimal_piece x (y ∷ []) c rest digit h = absurd (no_char h)
+decimal_piece x [] c rest digit h = absurd (cc h)
+decimal_piece x (y ∷ []) c rest digit h = absurd (cc h)
 decimal_piece x (y ∷ z ∷ text) c rest digit h =
     go (is_ascii_digit y && is_ascii_digit z && nat_lt (100 * (x - 48) + 10 * (y - 48) + (z - 48)) 256) refl where
-      number : ℕ
-      number = 100 * (x - 48) + 10 * (y - 48) + (z - 48)
-
-      go : (fits : Bool) → (is_ascii_digit y && is_ascii_digit z && nat_lt number 256) ≡ fits
+      go : (fits : Bool)
+          → (is_ascii_digit y && is_ascii_digit z && nat_lt (100 * (x - 48) + 10 * (y - 48) + (z - 48)) 256) ≡ fits
           → Piece (92 ∷ x ∷ []) (y ∷ z ∷ text) c rest
-      go true is =
-          let both = first_so (is_ascii_digit y && is_ascii_digit z) (nat_lt number 256) is in
-          let small = second_so (is_ascii_digit y && is_ascii_digit z) (nat_lt number 256) is in
-          piece_is (y ∷ z ∷ []) text
+      go true is = piece_is (y ∷ z ∷ []) text
           (is_number refl (record {
             first = digit;
-            second = first_so (is_ascii_digit y) (is_ascii_digit z) both;
-            third = second_so (is_ascii_digit y)
-                (is_ascii_digit z) both;
+            second = grind (arith, nat_tests);
+            third = grind (arith, nat_tests);
             is = refl;
             byte = grind (arith, nat_tests);
           }))
           refl (rw is at h)
-      go false is = absurd (no_char (rw is at h))
+      go false is = absurd (cc (rw is at h))
 
 escaped_piece : (text : List ℕ) (c : Character) (rest : List ℕ) → escaped_char text ≡ Some (c, rest)
     → Piece (92 ∷ []) text c rest
 unfolding escaped_char
-escaped_piece [] c rest h = absurd (no_char h)
+escaped_piece [] c rest h = absurd (cc h)
 escaped_piece (x ∷ text) c rest h = go (is_ascii_digit x) (nat_lt x 128) refl refl where
   go : (digit ascii : Bool) → is_ascii_digit x ≡ digit → nat_lt x 128 ≡ ascii → Piece (92 ∷ []) (x ∷ text) c rest
   go true ascii is small =
@@ -96,12 +74,12 @@ escaped_piece (x ∷ text) c rest h = go (is_ascii_digit x) (nat_lt x 128) refl 
       record { piece = x ∷ p.piece; spells = p.spells; is = ap (λ (t : List ℕ). x ∷ t) p.is }
   go false true is small = piece_is (x ∷ []) text (is_escaped refl (grind (arith, nat_tests)) is) refl
       (rw (is, small) at h)
-  go false false is small = absurd (no_char (rw (is, small) at h))
+  go false false is small = absurd (cc (rw (is, small) at h))
 
 pub piece_of_first : (text : List ℕ) (c : Character) (rest : List ℕ) → first_char text ≡ Some (c, rest)
     → (piece : List ℕ) × IsCharText piece c × (text ≡ piece ++ rest)
 unfolding first_char
-piece_of_first [] c rest h = absurd (no_char h)
+piece_of_first [] c rest h = absurd (cc h)
 piece_of_first (b ∷ text) c rest h = go (b == 92) (b == 46) (nat_le 33 b && nat_le b 126) refl refl refl where
   whole : Piece [] (b ∷ text) c rest → (piece : List ℕ) × IsCharText piece c × (b ∷ text ≡ piece ++ rest)
   whole p = (p.piece, p.spells, p.is)
@@ -117,7 +95,7 @@ piece_of_first (b ∷ text) c rest h = go (b == 92) (b == 46) (nat_le 33 b && na
   go false false true is is_it printable =
       whole (piece_is (b ∷ []) text (is_printable refl (grind (arith, nat_tests)) (grind (arith, nat_tests))
       (eqb-false b 46 is_it) (eqb-false b 92 is)) refl (rw (is, is_it, printable) at h))
-  go false false false is is_it printable = absurd (no_char (rw (is, is_it, printable) at h))
+  go false false false is is_it printable = absurd (cc (rw (is, is_it, printable) at h))
 
 -- one character more before those of the rest
 pub reads_more : {text rest : List ℕ} {c : Character} {cs : List Character} → first_char text ≡ Some (c, rest)

@@ -4,7 +4,7 @@ use Rattle.std.proofs.Common.{◌∙◌, arith, append_assoc, Option, Some, None
 use Rattle.std.specs.Prelude.{not, ◌&&◌, ◌==◌, ◌≢◌, slice_get}
 use Rattle.std.proofs.lemmas.Bool.Decides.{nat_tests}
 use Rattle.std.proofs.lemmas.List.{append-nil, drop_more, take_more}
-use Rattle.base.specs.texts.Tokens.{before, ends_item, is_line_end, item, line_end, past_separators, quoted, separates}
+use Rattle.base.specs.texts.Tokens.{before, ends_item, item, line_end, past_separators, quoted, separates}
 
 before-before : (a b : List ℕ) (c : Option (List ℕ × List ℕ)) → before a (before b c) ≡ before (a ++ b) c
 before-before a b None = refl
@@ -50,28 +50,13 @@ quoted_more text i kept inside goes whole =
     cut_more (quoted kept) (quoted (not kept && get_or text i 0 == 92)) text i inside
     (λ rest. quoted_step kept (get_or text i 0) rest goes) ∙ whole
 
-past_at_line_end : (c : ℕ) (text : List ℕ) → is_line_end c ≡ true
-    → past_separators false (c ∷ text) ≡ past_separators false text
-past_at_line_end c text is =
-    let no_comment : c == 59 ≡ false = grind (arith, nat_tests) in
-    let apart : separates c ≡ true = grind (arith, nat_tests) in
-    rw (no_comment, apart) refl
-
 comment_line : (text : List ℕ) → past_separators true text ≡ past_separators false (line_end text)
 comment_line [] = refl
-comment_line (c ∷ text) = go (is_line_end c) refl (comment_line text) where
-  go : (b : Bool) → is_line_end c ≡ b → past_separators true text ≡ past_separators false (line_end text)
-      → past_separators true (c ∷ text) ≡ past_separators false (line_end (c ∷ text))
-  go true is again = rw is (sym (past_at_line_end c text is))
-  go false is again = rw is again
+comment_line (c ∷ text) = grind (arith, nat_tests, comment_line text)
 
 pub line_end_le : (text : List ℕ) → length (line_end text) ≤ length text
 line_end_le [] = omega arith
-line_end_le (c ∷ text) = go (is_line_end c) refl (line_end_le text) where
-  go : (b : Bool) → is_line_end c ≡ b → length (line_end text) ≤ length text
-      → length (line_end (c ∷ text)) ≤ length (c ∷ text)
-  go true is again = rw is (omega arith)
-  go false is again = rw is (omega (arith, again))
+line_end_le (c ∷ text) = grind (arith, nat_tests, line_end_le text)
 
 -- the four ways on, by the first byte
 pub separators_comment : (text : List ℕ) → slice_get text 0 ≡ Some 59
@@ -92,8 +77,7 @@ pub separators_here : (text : List ℕ) (c : ℕ) → slice_get text 0 ≡ Some 
 separators_here [] c h other apart = absurd cc
 separators_here (d ∷ text) c h other apart =
     let is : d ≡ c = cc in
-    let away : c == 59 ≡ false = grind (arith, nat_tests) in
-    rw (is, away, apart) refl
+    grind (arith, nat_tests)
 
 pub separators_none : (text : List ℕ) → slice_get text 0 ≡ None → text ≡ past_separators false text
 separators_none [] h = refl

@@ -1,17 +1,15 @@
 -- The name of a text is the one that it names.
 use Rattle.std.proofs.Common.{◌≡◌, ◌≢◌, ℕ, zero, suc, ◌≤◌, List, [], ◌∷◌, ◌++◌, length, refl, ap, sym, ◌∙◌, subst}
 use Rattle.std.proofs.Common.{arith, length-append, Bool, true, false, Option, Some, None}
-use Rattle.std.specs.Prelude.{◌&&◌, nat_le, if◌then◌else◌}
-use Rattle.std.specs.Cmp.{first_so, second_so}
+use Rattle.std.specs.Prelude.{if◌then◌else◌}
 use Rattle.std.proofs.lemmas.Bool.Decides.{nat_tests}
 use Rattle.std.proofs.lemmas.List.{append-nil}
 use Rattle.base.specs.names.Labels.{AreLabels, plain_len}
 use Rattle.base.specs.texts.NameText.{Character, dot, byte, AreCharsOf, none, more, IsCharText, is_dot, is_printable}
 use Rattle.base.specs.texts.NameText.{is_escaped, is_number, IsLabelsText, dotted, first_char}
-use Rattle.base.specs.texts.NameOf.{are_labels, char_on, chars, chars_on, if_name, is_name, labels_of_chars, onto_first}
-use Rattle.base.specs.texts.NameOf.{pieces, text_labels, without_end}
+use Rattle.base.specs.texts.NameOf.{are_labels, char_on, chars, chars_on, if_name, is_name, labels_of_chars, pieces}
+use Rattle.base.specs.texts.NameOf.{text_labels, without_end}
 use Rattle.base.proofs.texts.CharLemmas.{first_of_piece, reads_more}
-use Rattle.base.proofs.texts.NamedLemmas.{some_once}
 use Rattle.base.proofs.texts.ParseLemmas.{dotted-dot, dotted-last, ended, first_of, last_piece, text_pieces}
 
 piece_some : {piece : List ℕ} {c : Character} → IsCharText piece c → 1 ≤ length piece
@@ -40,28 +38,23 @@ chars_complete (suc steps) (more {text = text} {piece = piece} {rest = rest} {c 
     chars_step steps text rest c (first_of_piece spells is) (omega arith)
     ∙ ap (char_on c) (chars_complete steps reads (omega arith))
 
-no_chars : {cs : List Character} → None ≡ Some cs → ⊥
-no_chars e = cc
+char_some : (c : Character) (found : Option (List Character)) (cs : List Character) → char_on c found ≡ Some cs
+    → (ds : List Character) × (c ∷ ds ≡ cs) × (found ≡ Some ds)
+char_some c None cs on = absurd (cc on)
+char_some c (Some ds) cs on = (ds, cc on, refl)
 
 pub chars_sound : (steps : ℕ) (text : List ℕ) (cs : List Character) → chars steps text ≡ Some cs → AreCharsOf text cs
 unfolding chars
-chars_sound steps [] cs is = subst (AreCharsOf []) (let same : [] ≡ cs = cc in same) none
-chars_sound zero (b ∷ text) cs is = absurd (no_chars is)
-chars_sound (suc steps) (b ∷ text) cs is =
-    go (λ rest ds. chars_sound steps rest ds) (first_char (b ∷ text)) refl is where
-      after : ((rest : List ℕ) (ds : List Character) → chars steps rest ≡ Some ds → AreCharsOf rest ds)
-          → (c : Character) (rest : List ℕ) (more_chars : Option (List Character))
-          → first_char (b ∷ text) ≡ Some (c, rest) → chars steps rest ≡ more_chars → char_on c more_chars ≡ Some cs
-          → AreCharsOf (b ∷ text) cs
-      after again c rest None first is on = absurd (no_chars on)
-      after again c rest (Some ds) first is on =
-          subst (AreCharsOf (b ∷ text)) (let same : c ∷ ds ≡ cs = cc in same) (reads_more first (again rest ds is))
-
-      go : ((rest : List ℕ) (ds : List Character) → chars steps rest ≡ Some ds → AreCharsOf rest ds)
-          → (found : Option (Character × List ℕ))
-          → first_char (b ∷ text) ≡ found → chars_on (chars steps) found ≡ Some cs → AreCharsOf (b ∷ text) cs
-      go again None first on = absurd (no_chars on)
-      go again (Some (c, rest)) first on = after again c rest (chars steps rest) first refl on
+chars_sound steps [] cs is = let same : [] ≡ cs = cc is in rw (← same) none
+chars_sound zero (b ∷ text) cs is = absurd (cc is)
+chars_sound (suc steps) (b ∷ text) cs is = go (first_char (b ∷ text)) refl is (chars_sound steps) where
+  go : (found : Option (Character × List ℕ)) → first_char (b ∷ text) ≡ found → chars_on (chars steps) found ≡ Some cs
+      → ((rest : List ℕ) (ds : List Character) → chars steps rest ≡ Some ds → AreCharsOf rest ds)
+      → AreCharsOf (b ∷ text) cs
+  go None first on again = absurd (cc on)
+  go (Some (c, rest)) first on again =
+      let more = char_some c (chars steps rest) cs on in
+      subst (AreCharsOf (b ∷ text)) more.1 (reads_more first (again rest more.0 more.2))
 
 -- the characters of pieces are those that they were cut from
 dotted-onto : (b : ℕ) (x : List ℕ) (xs : List (List ℕ)) → dotted ((b ∷ x) ∷ xs) ≡ byte b ∷ dotted (x ∷ xs)
@@ -72,13 +65,10 @@ dotted-pieces : (cs : List Character) → dotted (pieces cs) ≡ cs
 dotted-pieces [] = refl
 dotted-pieces (dot ∷ cs) =
     let f = first_of cs in
-    ap (λ (ps : List (List ℕ)). dotted ([] ∷ ps)) f.is ∙ ap (λ (ps : List (List ℕ)). dot ∷ dotted ps) (sym f.is)
-    ∙ ap (λ (ds : List Character). dot ∷ ds) (dotted-pieces cs)
+    rw f.2 (ap (λ (ds : List Character). dot ∷ ds) (rw f.2 at (dotted-pieces cs)))
 dotted-pieces (byte b ∷ cs) =
     let f = first_of cs in
-    ap (λ (ps : List (List ℕ)). dotted (onto_first b ps)) f.is ∙ dotted-onto b f.head f.tail
-    ∙ ap (λ (ps : List (List ℕ)). byte b ∷ dotted ps) (sym f.is)
-    ∙ ap (λ (ds : List Character). byte b ∷ ds) (dotted-pieces cs)
+    rw f.2 (dotted-onto b f.0 f.1 ∙ ap (λ (ds : List Character). byte b ∷ ds) (rw f.2 at (dotted-pieces cs)))
 
 dotted-end : (labels : List (List ℕ)) (absolute : Bool) → labels ≢ []
     → dotted (labels ++ last_piece absolute) ≡ dotted labels ++ (if absolute then dot ∷ [] else [])
@@ -105,28 +95,19 @@ without_end-labels ((b ∷ x) ∷ y ∷ ys) absolute are some =
 
 are_labels-true : (xs : List (List ℕ)) → AreLabels xs → are_labels xs ≡ true
 are_labels-true [] are = refl
-are_labels-true (x ∷ xs) are =
-    let some : nat_le 1 (length x) ≡ true = grind (arith, nat_tests, are.0.some) in
-    let short : nat_le (length x) 63 ≡ true = grind (arith, nat_tests, are.0.short) in
-    rw (some, short, are_labels-true xs are.1) refl
+are_labels-true (x ∷ xs) are = grind (arith, nat_tests, are.0.some, are.0.short, are_labels-true xs are.1)
 
 are_labels-from : (xs : List (List ℕ)) → are_labels xs ≡ true → AreLabels xs
 are_labels-from [] is = tt
-are_labels-from (x ∷ xs) is =
-    let both = first_so (nat_le 1 (length x) && nat_le (length x) 63) (are_labels xs) is in
-    let some = first_so (nat_le 1 (length x)) (nat_le (length x) 63) both in
-    let short = second_so (nat_le 1 (length x)) (nat_le (length x) 63) both in (
-      record { some = grind (arith, nat_tests); short = grind (arith, nat_tests) },
-      are_labels-from xs (second_so (nat_le 1 (length x) && nat_le (length x) 63) (are_labels xs) is),
-    )
+are_labels-from (x ∷ xs) is = (
+  record { some = grind (arith, nat_tests); short = grind (arith, nat_tests) },
+  are_labels-from xs (grind (arith, nat_tests)),
+)
 
 is_name-true : (labels : List (List ℕ)) → AreLabels labels → labels ≢ [] → plain_len labels ≤ 255
     → is_name labels ≡ true
 is_name-true [] are some short = absurd (some refl)
-is_name-true (x ∷ xs) are some short =
-    let one : nat_le 1 (length (x ∷ xs)) ≡ true = grind (arith, nat_tests) in
-    let fits : nat_le (plain_len (x ∷ xs)) 255 ≡ true = grind (arith, nat_tests) in
-    rw (one, are_labels-true (x ∷ xs) are, fits) refl
+is_name-true (x ∷ xs) are some short = grind (arith, nat_tests, are_labels-true (x ∷ xs) are)
 
 pub text_labels_complete : {text : List ℕ} {labels : List (List ℕ)} {absolute : Bool}
     → IsLabelsText text labels absolute → text_labels text ≡ Some (labels, absolute)
@@ -136,29 +117,21 @@ text_labels_complete {text} {labels} {absolute} is =
     let cut = ap without_end (text_pieces is is.reads) ∙ without_end-labels labels absolute is.each is.some in
     ap labels_of_chars cs ∙ ap if_name cut ∙ rw (is_name-true labels is.each is.some is.short) refl
 
-module _ {text : List ℕ} (labels : List (List ℕ)) (absolute : Bool) where
-  labels_text_from : (cs : List Character) → AreCharsOf text cs → without_end (pieces cs) ≡ (labels, absolute)
-      → is_name labels ≡ true → IsLabelsText text labels absolute
-  labels_text_from cs reads cut is =
-      let front = first_so (nat_le 1 (length labels) && are_labels labels) (nat_le (plain_len labels) 255) is in
-      let one = first_so (nat_le 1 (length labels)) (are_labels labels) front in
-      let fits = second_so (nat_le 1 (length labels) && are_labels labels) (nat_le (plain_len labels) 255) is in
-      let some : labels ≢ [] = λ (e : labels ≡ []). let none = ap length e in grind (arith, nat_tests) in
-      let f = first_of cs in
-      let whole : pieces cs ≡ labels ++ last_piece absolute =
-      f.is ∙ without_end-is f.head f.tail ∙ ap (λ (ps : List (List ℕ)). (without_end ps).0 ++ last_piece
-      (without_end ps).1) (sym f.is)
-      ∙ ap (λ (r : List (List ℕ) × Bool). r.0 ++ last_piece r.1) cut in
-      record {
-        reads = subst (AreCharsOf text) (sym (dotted-pieces cs) ∙ ap dotted whole ∙ dotted-end labels absolute some)
-            reads;
-        some = some;
-        each = are_labels-from labels (second_so (nat_le 1 (length labels)) (are_labels labels) front);
-        short = grind (arith, nat_tests);
-      }
-
-no_labels : {A : Type 0} {x : A} → None ≡ Some x → ⊥
-no_labels e = cc
+labels_text_from : {text : List ℕ} (labels : List (List ℕ)) (absolute : Bool) (cs : List Character) → AreCharsOf text cs
+    → without_end (pieces cs) ≡ (labels, absolute) → is_name labels ≡ true → IsLabelsText text labels absolute
+labels_text_from {text} labels absolute cs reads cut is =
+    let fits : plain_len labels ≤ 255 = grind (arith, nat_tests) in
+    let some : labels ≢ [] = λ (e : labels ≡ []). let none = ap length e in grind (arith, nat_tests) in
+    let f = first_of cs in
+    let all : pieces cs ≡ (without_end (pieces cs)).0 ++ last_piece (without_end (pieces cs)).1 =
+    rw f.2 (without_end-is f.0 f.1) in
+    let whole = rw cut at all in
+    record {
+      reads = rw (← dotted-end labels absolute some, ← whole, dotted-pieces cs) reads;
+      some = some;
+      each = are_labels-from labels (grind (arith, nat_tests));
+      short = fits;
+    }
 
 pub text_labels_sound : (text : List ℕ) (labels : List (List ℕ)) (absolute : Bool)
     → text_labels text ≡ Some (labels, absolute) → IsLabelsText text labels absolute
@@ -167,11 +140,11 @@ text_labels_sound text labels absolute is = go (chars (length text) text) refl i
   cut : (cs : List Character) → AreCharsOf text cs → (fits : Bool) → is_name (without_end (pieces cs)).0 ≡ fits
       → if_name (without_end (pieces cs)) ≡ Some (labels, absolute) → IsLabelsText text labels absolute
   cut cs reads true fits on =
-      let same : without_end (pieces cs) ≡ (labels, absolute) = some_once (rw fits at on) in
+      let same : without_end (pieces cs) ≡ (labels, absolute) = cc (rw fits at on) in
       labels_text_from labels absolute cs reads same (sym (ap (λ (r : List (List ℕ) × Bool). is_name r.0) same) ∙ fits)
-  cut cs reads false fits on = absurd (no_labels (rw fits at on))
+  cut cs reads false fits on = absurd (cc (rw fits at on))
 
   go : (found : Option (List Character)) → chars (length text) text ≡ found
       → labels_of_chars found ≡ Some (labels, absolute) → IsLabelsText text labels absolute
-  go None read on = absurd (no_labels on)
+  go None read on = absurd (cc on)
   go (Some cs) read on = cut cs (chars_sound (length text) text cs read) (is_name (without_end (pieces cs)).0) refl on

@@ -1,13 +1,12 @@
 -- Reading the text of names: what was gathered, and what no name can be.
 use Rattle.std.proofs.Common.{◌≡◌, ◌≢◌, ℕ, zero, suc, ◌+◌, ◌<◌, ◌≤◌, ◌⊎◌, inl, inr, List, [], ◌∷◌, ◌++◌, length, map}
-use Rattle.std.proofs.Common.{take}
-use Rattle.std.proofs.Common.{drop, set, refl, ap, sym, ◌∙◌, subst, arith, append_assoc, length-append, length-drop}
-use Rattle.std.proofs.Common.{length-set, length-take-le, Bool, true, false, Some, None}
+use Rattle.std.proofs.Common.{take, drop, set, refl, ap, sym, ◌∙◌, subst, arith, append_assoc, length-append}
+use Rattle.std.proofs.Common.{length-drop, length-set, length-take-le, Bool, true, false, Some, None}
 use Rattle.std.specs.Prelude.{if◌then◌else◌}
 use Rattle.std.proofs.lemmas.List.{append-nil, map-append, drop-set-add, nil_from_length, set_split, take-set-le}
 use Rattle.std.proofs.lemmas.List.{take_more_set}
 use Rattle.std.proofs.Math.Seq.{take-append-add}
-use Rattle.base.specs.names.Labels.{AreLabels, IsWire, labels_of, plain_len, size_of}
+use Rattle.base.specs.names.Labels.{AreLabels, IsWire, labels_of, size_of}
 use Rattle.base.specs.texts.NameText.{Character, dot, byte, AreCharsOf, none, more, IsLabelsText, dotted, first_char}
 use Rattle.base.specs.texts.NameOf.{onto_first, pieces}
 use Rattle.base.proofs.texts.CharLemmas.{first_of_piece, reads_more, same_first}
@@ -34,20 +33,17 @@ ended (x ∷ xs) = map byte x ++ (dot ∷ ended xs)
 
 ended-append : (xs ys : List (List ℕ)) → ended (xs ++ ys) ≡ ended xs ++ ended ys
 ended-append [] ys = refl
-ended-append (x ∷ xs) ys = ap (λ (cs : List Character). map byte x ++ (dot ∷ cs)) (ended-append xs ys)
-    ∙ sym (append_assoc (map byte x) (dot ∷ ended xs) (ended ys))
+ended-append (x ∷ xs) ys = simp (ended-append xs ys, append_assoc)
 
 pub dotted-last : (xs : List (List ℕ)) (x : List ℕ) → dotted (xs ++ x ∷ []) ≡ ended xs ++ map byte x
 dotted-last [] x = refl
-dotted-last (y ∷ []) x = sym (append_assoc (map byte y) (dot ∷ []) (map byte x))
-dotted-last (y ∷ z ∷ zs) x = ap (λ (cs : List Character). map byte y ++ (dot ∷ cs)) (dotted-last (z ∷ zs) x)
-    ∙ sym (append_assoc (map byte y) (dot ∷ ended (z ∷ zs)) (map byte x))
+dotted-last (y ∷ []) x = simp append_assoc
+dotted-last (y ∷ z ∷ zs) x = simp (dotted-last (z ∷ zs) x, append_assoc)
 
 pub dotted-dot : (xs : List (List ℕ)) → xs ≢ [] → dotted xs ++ dot ∷ [] ≡ ended xs
 dotted-dot [] some = absurd (some refl)
 dotted-dot (x ∷ []) some = refl
-dotted-dot (x ∷ y ∷ ys) some = append_assoc (map byte x) (dot ∷ dotted (y ∷ ys)) (dot ∷ [])
-    ∙ ap (λ (cs : List Character). map byte x ++ (dot ∷ cs)) (dotted-dot (y ∷ ys) (λ e. absurd cc))
+dotted-dot (x ∷ y ∷ ys) some = simp (append_assoc, dotted-dot (y ∷ ys) (λ e. absurd cc))
 
 pieces-label : (x : List ℕ) (cs : List Character) → pieces (map byte x ++ (dot ∷ cs)) ≡ x ∷ pieces cs
 pieces-label [] cs = refl
@@ -70,15 +66,10 @@ pieces-front [] cs h t is = is
 pieces-front (b ∷ x) cs h t is = ap (onto_first b) (pieces-front x cs h t is)
 
 -- there is always one
-pub record First (cs : List Character) : Type 0 where
-  pub head : List ℕ
-  pub tail : List (List ℕ)
-  pub is : pieces cs ≡ head ∷ tail
-
-pub first_of : (cs : List Character) → First cs
-first_of [] = record { head = []; tail = []; is = refl }
-first_of (dot ∷ cs) = record { head = []; tail = pieces cs; is = refl }
-first_of (byte b ∷ cs) = let r = first_of cs in record { head = b ∷ r.head; tail = r.tail; is = ap (onto_first b) r.is }
+pub first_of : (cs : List Character) → (head : List ℕ) × (tail : List (List ℕ)) × (pieces cs ≡ head ∷ tail)
+first_of [] = ([], [], refl)
+first_of (dot ∷ cs) = ([], pieces cs, refl)
+first_of (byte b ∷ cs) = let r = first_of cs in (b ∷ r.0, r.1, ap (onto_first b) r.2)
 
 pieces-dotted : (xs : List (List ℕ)) → xs ≢ [] → pieces (dotted xs) ≡ xs
 pieces-dotted [] some = absurd (some refl)
@@ -103,21 +94,16 @@ weight [] = 0
 weight ([] ∷ xs) = weight xs
 weight ((c ∷ cs) ∷ xs) = 1 + length (c ∷ cs) + weight xs
 
-abbrev AllShort : List (List ℕ) → Type 0
-AllShort [] = Unit {0}
-AllShort (x ∷ xs) = (length x ≤ 63) × AllShort xs
-
--- all but the last are not empty
-abbrev InnerSome : List (List ℕ) → Type 0
-InnerSome [] = Unit {0}
-InnerSome (x ∷ []) = Unit {0}
-InnerSome (x ∷ y ∷ ys) = (1 ≤ length x) × InnerSome (y ∷ ys)
+-- none is too long, and all but the last are not empty
+abbrev AreInner : List (List ℕ) → Type 0
+AreInner [] = Unit {0}
+AreInner (x ∷ []) = length x ≤ 63
+AreInner (x ∷ y ∷ ys) = (1 ≤ length x) × (length x ≤ 63) × AreInner (y ∷ ys)
 
 -- the pieces of a name's text
 record Fits (xs : List (List ℕ)) : Type 0 where
   light : weight xs ≤ 254
-  short : AllShort xs
-  inner : InnerSome xs
+  inner : AreInner xs
 
 weight-some : (x : List ℕ) (xs : List (List ℕ)) → 1 ≤ length x → weight (x ∷ xs) ≡ 1 + length x + weight xs
 weight-some [] xs some = absurd (omega arith)
@@ -127,32 +113,17 @@ weight-labels : (xs ys : List (List ℕ)) → AreLabels xs → weight (xs ++ ys)
 weight-labels [] ys are = omega arith
 weight-labels (x ∷ xs) ys are = omega (arith, weight-some x (xs ++ ys) are.0.some, weight-labels xs ys are.1)
 
-AllShort-labels : (xs : List (List ℕ)) (absolute : Bool) → AreLabels xs → AllShort (xs ++ last_piece absolute)
-AllShort-labels [] true are = (omega arith, tt)
-AllShort-labels [] false are = tt
-AllShort-labels (x ∷ xs) absolute are = (are.0.short, AllShort-labels xs absolute are.1)
+inner-cons : (x : List ℕ) (xs : List (List ℕ)) → 1 ≤ length x → length x ≤ 63 → AreInner xs → AreInner (x ∷ xs)
+inner-cons x [] some short inner = short
+inner-cons x (y ∷ ys) some short inner = (some, short, inner)
 
-InnerSome-cons : (x : List ℕ) (xs : List (List ℕ)) → 1 ≤ length x → InnerSome xs → InnerSome (x ∷ xs)
-InnerSome-cons x [] some inner = tt
-InnerSome-cons x (y ∷ ys) some inner = (some, inner)
+inner-labels : (xs ys : List (List ℕ)) → AreLabels xs → AreInner ys → AreInner (xs ++ ys)
+inner-labels [] ys are inner = inner
+inner-labels (x ∷ xs) ys are inner = inner-cons x (xs ++ ys) are.0.some are.0.short (inner-labels xs ys are.1 inner)
 
-InnerSome-labels : (xs : List (List ℕ)) (absolute : Bool) → AreLabels xs → InnerSome (xs ++ last_piece absolute)
-InnerSome-labels [] true are = tt
-InnerSome-labels [] false are = tt
-InnerSome-labels (x ∷ xs) absolute are = InnerSome-cons x (xs ++ last_piece absolute) are.0.some
-    (InnerSome-labels xs absolute are.1)
-
-weight-last : (absolute : Bool) → weight (last_piece absolute) ≡ 0
-weight-last true = refl
-weight-last false = refl
-
-Fits-labels : (xs : List (List ℕ)) (absolute : Bool) → AreLabels xs → plain_len xs ≤ 255
-    → Fits (xs ++ last_piece absolute)
-Fits-labels xs absolute are short = record {
-  light = omega (arith, weight-labels xs (last_piece absolute) are, weight-last absolute);
-  short = AllShort-labels xs absolute are;
-  inner = InnerSome-labels xs absolute are;
-}
+fits-last : (absolute : Bool) → (weight (last_piece absolute) ≡ 0) × AreInner (last_piece absolute)
+fits-last true = (refl, omega arith)
+fits-last false = (refl, tt)
 
 -- the pieces of the characters of a name's text
 pub text_pieces : {text : List ℕ} {labels : List (List ℕ)} {absolute : Bool} {cs : List Character}
@@ -162,17 +133,32 @@ text_pieces {labels = labels} {absolute = absolute} is reads =
 
 text_fits : {text : List ℕ} {labels : List (List ℕ)} {absolute : Bool} {cs : List Character}
     → IsLabelsText text labels absolute → AreCharsOf text cs → Fits (pieces cs)
-text_fits {labels = labels} {absolute = absolute} is reads =
-    subst Fits (sym (text_pieces is reads)) (Fits-labels labels absolute is.each is.short)
+text_fits {labels = labels} {absolute = absolute} is reads = rw (text_pieces is reads) (record {
+  light = omega (arith, weight-labels labels (last_piece absolute) is.each, (fits-last absolute).0, is.short);
+  inner = inner-labels labels (last_piece absolute) is.each (fits-last absolute).1;
+})
 
-short_at : (xs : List (List ℕ)) (y : List ℕ) (ys : List (List ℕ)) → AllShort (xs ++ y ∷ ys) → length y ≤ 63
-short_at [] y ys short = short.0
-short_at (x ∷ xs) y ys short = short_at xs y ys short.1
+inner_from : (xs : List (List ℕ)) (y : List ℕ) (ys : List (List ℕ)) → AreInner (xs ++ y ∷ ys) → AreInner (y ∷ ys)
+inner_from [] y ys inner = inner
+inner_from (x ∷ []) y ys inner = inner.2
+inner_from (x ∷ z ∷ zs) y ys inner = inner_from (z ∷ zs) y ys inner.2
 
-not_inner : (xs : List (List ℕ)) (y : List ℕ) (ys : List (List ℕ)) → InnerSome (xs ++ [] ∷ y ∷ ys) → ⊥
-not_inner [] y ys inner = omega (arith, inner.0)
-not_inner (x ∷ []) y ys inner = omega (arith, inner.1.0)
-not_inner (x ∷ z ∷ zs) y ys inner = not_inner (z ∷ zs) y ys inner.1
+short_first : (y : List ℕ) (ys : List (List ℕ)) → AreInner (y ∷ ys) → length y ≤ 63
+short_first y [] inner = inner
+short_first y (z ∷ zs) inner = inner.1
+
+-- the first piece is not empty where others follow
+pub first_some : {text : List ℕ} {labels : List (List ℕ)} {absolute : Bool} {cs : List Character}
+    → IsLabelsText text labels absolute → AreCharsOf text cs → (ps : List (List ℕ)) → pieces cs ≡ [] ∷ ps → ⊥
+first_some {labels = labels} {absolute = absolute} is reads ps first =
+    go labels is.each is.some (sym first ∙ text_pieces is reads) where
+      go : (labels : List (List ℕ)) → AreLabels labels → labels ≢ [] → [] ∷ ps ≡ labels ++ last_piece absolute → ⊥
+      go [] are some e = some refl
+      go (x ∷ xs) are some e = let first : [] ≡ x = cc in omega (arith, are.0.some, ap length first)
+
+-- the text is of no labels
+abbrev pub NoLabels : List ℕ → Type 0
+NoLabels text = (labels : List (List ℕ)) (absolute : Bool) → IsLabelsText text labels absolute → ⊥
 
 -- What was gathered of a text before the rest: labels that have ended, and the bytes of one that goes on.
 pub record Gathered (text rest : List ℕ) (done : List (List ℕ)) (current : List ℕ) : Type 0 where
@@ -199,43 +185,31 @@ stuck (more spells is reads) nothing some = absurd (none_some (sym nothing ∙ f
 
 module _ {text rest : List ℕ} {done : List (List ℕ)} {current : List ℕ}
     (gathered : Gathered text rest done current) where
+  -- a character more
+  gathered_more : (c : Character) (tail : List ℕ) (ended_now : List (List ℕ)) (bytes : List ℕ)
+      → first_char rest ≡ Some (c, tail)
+      → ((cs : List Character) → ended done ++ (map byte current ++ (c ∷ cs))
+      ≡ ended ended_now ++ (map byte bytes ++ cs))
+      → Gathered text tail ended_now bytes
+  gathered_more c tail ended_now bytes is same = record {
+    goes_on = λ cs reads. subst (AreCharsOf text) (same cs) (gathered.goes_on (c ∷ cs) (reads_more is reads));
+    comes_from = λ cs reads.
+        let earlier = gathered.comes_from cs reads in
+        let on = reads_on earlier.1 is in (
+          on.0,
+          on.1,
+          earlier.2 ∙ ap (λ (ds : List Character). ended done ++ (map byte current ++ ds)) on.2 ∙ same on.0,
+        );
+  }
+
   pub gathered_byte : {b : ℕ} {tail : List ℕ} → first_char rest ≡ Some (byte b, tail)
       → Gathered text tail done (current ++ b ∷ [])
-  gathered_byte {b} {tail} is = record {
-    goes_on = λ cs reads. subst (AreCharsOf text) (one_more cs) (gathered.goes_on (byte b ∷ cs) (reads_more is reads));
-    comes_from = λ cs reads.
-        let earlier = gathered.comes_from cs reads in
-        let on = reads_on earlier.1 is in (
-          on.0,
-          on.1,
-          earlier.2 ∙ ap (λ (ds : List Character). ended done ++ (map byte current ++ ds)) on.2
-              ∙ one_more on.0,
-        );
-  } where
-    one_more : (cs : List Character) → ended done ++ (map byte current ++ (byte b ∷ cs))
-        ≡ ended done ++ (map byte (current ++ b ∷ []) ++ cs)
-    one_more cs = ap (λ (ds : List Character). ended done ++ ds)
-        (sym (append_assoc (map byte current) (byte b ∷ []) cs)
-        ∙ ap (λ (ds : List Character). ds ++ cs) (sym (map-append byte current (b ∷ []))))
+  gathered_byte {b} {tail} is =
+      gathered_more (byte b) tail done (current ++ b ∷ []) is (λ cs. simp (map-append, append_assoc))
 
   pub gathered_dot : {tail : List ℕ} → first_char rest ≡ Some (dot, tail) → Gathered text tail (done ++ current ∷ []) []
-  gathered_dot {tail} is = record {
-    goes_on = λ cs reads. subst (AreCharsOf text) (one_more cs) (gathered.goes_on (dot ∷ cs) (reads_more is reads));
-    comes_from = λ cs reads.
-        let earlier = gathered.comes_from cs reads in
-        let on = reads_on earlier.1 is in (
-          on.0,
-          on.1,
-          earlier.2 ∙ ap (λ (ds : List Character). ended done ++ (map byte current ++ ds)) on.2
-              ∙ one_more on.0,
-        );
-  } where
-    one_more : (cs : List Character) → ended done ++ (map byte current ++ (dot ∷ cs)) ≡ ended
-        (done ++ current ∷ []) ++ cs
-    one_more cs =
-        ap (λ (ds : List Character). ended done ++ ds) (sym (append_assoc (map byte current) (dot ∷ []) cs))
-        ∙ sym (append_assoc (ended done) (map byte current ++ dot ∷ []) cs)
-        ∙ ap (λ (ds : List Character). ds ++ cs) (sym (ended-append done (current ∷ [])))
+  gathered_dot {tail} is =
+      gathered_more dot tail (done ++ current ∷ []) [] is (λ cs. simp (ended-append, append_assoc))
 
   -- the pieces, where the rest reads as these characters
   rest_pieces : {labels : List (List ℕ)} {absolute : Bool} → IsLabelsText text labels absolute
@@ -256,23 +230,19 @@ module _ {text rest : List ℕ} {done : List (List ℕ)} {current : List ℕ}
       let r = rest_pieces is in
       let on = reads_on r.1 first in
       let f = first_of on.0 in (
-        f.head,
-        f.tail,
+        f.0,
+        f.1,
         subst (λ (ps : List (List ℕ)). Fits (done ++ ps))
-            (ap (λ (ds : List Character). pieces (map byte current ++ ds)) on.2
-            ∙ pieces-front current (byte b ∷ on.0) (b ∷ f.head) f.tail (ap (onto_first b) f.is)) r.2,
+            (pieces-front current (byte b ∷ on.0) (b ∷ f.0) f.1 (ap (onto_first b) f.2)) (rw on.2 at r.2),
       )
 
-  pub label_too_long : {labels : List (List ℕ)} {absolute : Bool} {b : ℕ} {tail : List ℕ}
-      → first_char rest ≡ Some (byte b, tail) → 63 ≤ length current → IsLabelsText text labels absolute → ⊥
-  label_too_long {b = b} first long is =
+  pub byte_too_many : {b : ℕ} {tail : List ℕ} → first_char rest ≡ Some (byte b, tail) → AreLabels done
+      → (63 ≤ length current) ⊎ (254 ≤ size_of done + 1 + length current) → NoLabels text
+  byte_too_many {b = b} first are (inl long) labels absolute is =
       let r = with_byte first is in
-      omega (arith, short_at done (current ++ b ∷ r.0) r.1 r.2.short, length-append current (b ∷ r.0))
-
-  pub name_too_long : {labels : List (List ℕ)} {absolute : Bool} {b : ℕ} {tail : List ℕ}
-      → first_char rest ≡ Some (byte b, tail) → AreLabels done
-      → 254 ≤ size_of done + 1 + length current → IsLabelsText text labels absolute → ⊥
-  name_too_long {b = b} first are long is =
+      let short = short_first _ _ (inner_from done (current ++ b ∷ r.0) r.1 r.2.inner) in
+      omega (arith, length-append current (b ∷ r.0))
+  byte_too_many {b = b} first are (inr long) labels absolute is =
       let r = with_byte first is in
       let len = length-append current (b ∷ r.0) in
       omega (
@@ -280,25 +250,20 @@ module _ {text rest : List ℕ} {done : List (List ℕ)} {current : List ℕ}
         r.2.light,
         weight-labels done ((current ++ b ∷ r.0) ∷ r.1) are,
         weight-some (current ++ b ∷ r.0) r.1 (omega arith),
-        len,
       )
 
-  pub label_empty : {labels : List (List ℕ)} {absolute : Bool} {tail : List ℕ} → first_char rest ≡ Some (dot, tail)
-      → current ≡ [] → IsLabelsText text labels absolute → ⊥
-  label_empty first empty is =
-      let r = rest_pieces is in
-      let on = reads_on r.1 first in
-      let f = first_of on.0 in
-      not_inner done f.head f.tail
-      (subst (λ (ps : List (List ℕ)). InnerSome (done ++ ps))
-      (ap (λ (ds : List Character). pieces (map byte current ++ ds)) on.2
-      ∙ ap (λ (x : List ℕ). pieces (map byte x ++ (dot ∷ on.0))) empty ∙ ap (λ (ps : List (List ℕ)). [] ∷ ps) f.is)
-      r.2.inner)
-
   -- the text goes on, but not by a character
-  pub no_char : {labels : List (List ℕ)} {absolute : Bool} → first_char rest ≡ None → rest ≢ []
-      → IsLabelsText text labels absolute → ⊥
-  no_char nothing some is = stuck (rest_pieces is).1 nothing some
+  pub no_char : first_char rest ≡ None → rest ≢ [] → NoLabels text
+  no_char nothing some labels absolute is = stuck (rest_pieces is).1 nothing some
+
+label_empty : {text rest tail : List ℕ} {done : List (List ℕ)} → Gathered text rest done []
+    → first_char rest ≡ Some (dot, tail) → NoLabels text
+label_empty {done = done} gathered first labels absolute is =
+    let r = rest_pieces gathered is in
+    let on = reads_on r.1 first in
+    let f = first_of on.0 in
+    let empty = inner_from done [] (f.0 ∷ f.1) (rw (on.2, f.2) at r.2.inner) in
+    omega (arith, empty.0)
 
 pub not_nil : (xs : List (List ℕ)) (x : List ℕ) → xs ++ x ∷ [] ≢ []
 not_nil [] x e = absurd cc
@@ -331,23 +296,9 @@ ends_absolute {text} {done} gathered some are short = record {
   short = omega arith;
 }
 
-reads_nil : {ds : List Character} → AreCharsOf [] ds → ds ≡ []
-reads_nil none = refl
-reads_nil (more spells is reads) = absurd (nothing_first (first_of_piece spells is))
-
 -- the empty text is no name
-ends_nothing : {text : List ℕ} {done labels : List (List ℕ)} {current : List ℕ} {absolute : Bool}
-    → Gathered text [] done current → done ≡ [] → current ≡ [] → IsLabelsText text labels absolute → ⊥
-ends_nothing {done = done} {labels = labels} {current = current} {absolute = absolute} gathered no_label no_byte is =
-    let from = gathered.comes_from _ is.reads in
-    let chars = from.2 ∙ ap (λ (xs : List (List ℕ)). ended xs ++ (map byte current ++ from.0)) no_label
-    ∙ ap (λ (x : List ℕ). map byte x ++ from.0) no_byte ∙ reads_nil from.1 in
-    go labels absolute is.each is.some (sym (ap pieces chars) ∙ text_pieces is is.reads)
-  where
-    go : (labels : List (List ℕ)) (absolute : Bool) → AreLabels labels → labels ≢ []
-        → [] ∷ [] ≡ labels ++ last_piece absolute → ⊥
-    go [] absolute are some e = some refl
-    go (x ∷ xs) absolute are some e = let first : [] ≡ x = cc in omega (arith, are.0.some, ap length first)
+ends_nothing : {text : List ℕ} → Gathered text [] [] [] → NoLabels text
+ends_nothing gathered labels absolute is = first_some is (gathered.goes_on [] none) [] refl
 
 -- What the room holds of a text before the rest: the bytes of labels, and then of one that goes on.
 pub record Holds (text rest room : List ℕ) (used len : ℕ) : Type 0 where
@@ -369,18 +320,17 @@ holds_none text room size = record {
 }
 
 module _ {text rest room : List ℕ} {used len : ℕ} (holds : Holds text rest room used len) where
-  pub current_len : length (take len (drop (used + 1) room)) ≡ len
+  current_len : length (take len (drop (used + 1) room)) ≡ len
   current_len = length-take-le len (drop (used + 1) room) (below len refl) where
     below : (n : ℕ) → n ≡ len → len ≤ length (drop (used + 1) room)
     below zero is = omega arith
-    below (suc n) is = omega (arith, length-drop (used + 1) room, holds.size, holds.fits (omega arith))
+    below (suc n) is = omega (arith, length-drop (used + 1) room, holds.fits (omega arith))
 
-  pub done_size : size_of (labels_of (take used room)) ≡ used
-  done_size = omega (
-    arith,
-    size_of-labels_of (take used room) holds.wire,
-    length-take-le used room (omega (arith, holds.size, holds.inside)),
-  )
+  front_len : length (take used room) ≡ used
+  front_len = length-take-le used room (omega arith)
+
+  done_size : size_of (labels_of (take used room)) ≡ used
+  done_size = omega (arith, size_of-labels_of (take used room) holds.wire, front_len)
 
   pub holds_byte : {b : ℕ} {tail : List ℕ} → first_char rest ≡ Some (byte b, tail) → len < 63 → used + 1 + len < 254
       → Holds text tail (set room (used + 1 + len) b) used (len + 1)
@@ -408,99 +358,68 @@ module _ {text rest room : List ℕ} {used len : ℕ} (holds : Holds text rest r
   label_put : (n : ℕ) → n ≡ len → 1 ≤ len → take (used + 1 + len) (set room used n)
       ≡ take used room ++ (length (take len (drop (used + 1) room)) ∷ take len (drop (used + 1) room))
   label_put n is some =
-      let current = take len (drop (used + 1) room) in
-      let at : used + 1 + len ≡ used + suc len = omega arith in
+      let at : used + 1 + len ≡ length (take used room) + suc len = omega (arith, front_len) in
       let next : suc used ≡ used + 1 = omega arith in
-      let len-front : length (take used room) ≡ used =
-      length-take-le used room (omega (arith, holds.size, holds.inside)) in
-      ap (λ (k : ℕ). take k (set room used n)) at
-      ∙ ap (take (used + suc len)) (set_split room used n (omega (arith, holds.size, holds.fits some)))
-      ∙ ap (λ (k : ℕ). take (k + suc len) (take used room ++ (n ∷ drop (suc used) room))) (sym len-front)
-      ∙ take-append-add (take used room) (n ∷ drop (suc used) room) (suc len)
-      ∙ ap (λ (k : ℕ). take used room ++ (k ∷ take len (drop (suc used) room))) (is ∙ sym current_len)
-      ∙ ap (λ (k : ℕ). take used room ++ (length current ∷ take len (drop k room))) next
+      rw (set_split room used n (omega (arith, holds.fits some)), at, current_len, is, ← next)
+      (take-append-add (take used room) (len ∷ drop (suc used) room) (suc len))
+
+  -- the bytes of one label more
+  pub wire_put : {n : ℕ} → n ≡ len → 1 ≤ len → IsWire (take (used + 1 + len) (set room used n))
+  wire_put {n} is some =
+      rw (label_put n is some) (IsWire-push (take used room) (take len (drop (used + 1) room)) holds.wire
+      (omega (arith, current_len)) (omega (arith, current_len))
+      (omega (arith, current_len, holds.fits some, front_len)))
+
+  labels_put : (n : ℕ) → n ≡ len → 1 ≤ len → labels_of (take (used + 1 + len) (set room used n))
+      ≡ labels_of (take used room) ++ take len (drop (used + 1) room) ∷ []
+  labels_put n is some = ap labels_of (label_put n is some)
+      ∙ labels_of-push (take used room) (take len (drop (used + 1) room)) holds.wire
 
   pub holds_dot : {n : ℕ} {tail : List ℕ} → first_char rest ≡ Some (dot, tail) → n ≡ len → 1 ≤ len
       → Holds text tail (set room used n) (used + 1 + len) 0
   holds_dot {n} {tail} first is some = record {
-    gathered = subst (λ (done : List (List ℕ)). Gathered text tail done [])
-        (sym (ap labels_of put ∙ labels_of-push (take used room) current holds.wire))
-        (gathered_dot holds.gathered first);
-    wire = subst IsWire (sym put) pushed;
+    gathered = rw (labels_put n is some) (gathered_dot holds.gathered first);
+    wire = wire_put is some;
     size = length-set room used n ∙ holds.size;
     inside = holds.fits some;
     short = omega arith;
     fits = λ more. absurd (omega arith);
-  } where
-    current : List ℕ
-    current = take len (drop (used + 1) room)
-
-    put : take (used + 1 + len) (set room used n) ≡ take used room ++ (length current ∷ current)
-    put = label_put n is some
-
-    pushed : IsWire (take used room ++ (length current ∷ current))
-    pushed = IsWire-push (take used room) current holds.wire (omega (arith, current_len))
-        (omega (arith, current_len, holds.short))
-        (omega (
-          arith,
-          current_len,
-          holds.fits some,
-          length-take-le used room (omega (arith, holds.size, holds.inside)),
-        ))
+  }
 
   -- where no name can be read
-  pub stops_at_char : first_char rest ≡ None → rest ≢ [] → (labels : List (List ℕ)) (absolute : Bool)
-      → IsLabelsText text labels absolute → ⊥
-  stops_at_char nothing some labels absolute is = no_char holds.gathered nothing some is
+  pub stops_at_char : first_char rest ≡ None → rest ≢ [] → NoLabels text
+  stops_at_char nothing some = no_char holds.gathered nothing some
 
   pub stops_at_byte : {b : ℕ} {tail : List ℕ} → first_char rest ≡ Some (byte b, tail) → 63 ≤ len ⊎ 254 ≤ used + 1 + len
-      → (labels : List (List ℕ)) (absolute : Bool) → IsLabelsText text labels absolute → ⊥
-  stops_at_byte first (inl long) labels absolute is =
-      label_too_long holds.gathered first (omega (arith, current_len)) is
-  stops_at_byte first (inr long) labels absolute is =
-      name_too_long holds.gathered first holds.wire.labels (omega (arith, done_size, current_len)) is
+      → NoLabels text
+  stops_at_byte first long =
+      byte_too_many holds.gathered first holds.wire.labels (rw (current_len, done_size) long)
 
-  pub stops_at_dot : {tail : List ℕ} → first_char rest ≡ Some (dot, tail) → len ≡ 0
-      → (labels : List (List ℕ)) (absolute : Bool) → IsLabelsText text labels absolute → ⊥
-  stops_at_dot first nothing labels absolute is =
-      label_empty holds.gathered first (nil_from_length _ (current_len ∙ nothing)) is
+  pub stops_at_dot : {tail : List ℕ} → first_char rest ≡ Some (dot, tail) → len ≡ 0 → NoLabels text
+  stops_at_dot first nothing =
+      label_empty (rw (nil_from_length _ (current_len ∙ nothing)) at holds.gathered) first
 
   no_labels : (labels : List (List ℕ)) → AreLabels labels → size_of labels ≡ 0 → labels ≡ []
   no_labels [] are size = refl
   no_labels (x ∷ xs) are size = absurd (omega (arith, are.0.some))
 
-  pub stops_at_start : rest ≡ [] → used ≡ 0 → len ≡ 0 → (labels : List (List ℕ)) (absolute : Bool)
-      → IsLabelsText text labels absolute → ⊥
-  stops_at_start nil nothing no_byte labels absolute is =
-      ends_nothing (subst (λ (r : List ℕ). Gathered text r (labels_of (take used room))
-      (take len (drop (used + 1) room))) nil holds.gathered)
-      (no_labels (labels_of (take used room)) holds.wire.labels (done_size ∙ nothing))
-      (nil_from_length _ (current_len ∙ no_byte)) is
+  pub stops_at_start : rest ≡ [] → used ≡ 0 → len ≡ 0 → NoLabels text
+  stops_at_start nil nothing no_byte =
+      ends_nothing (rw (
+        nil,
+        no_labels (labels_of (take used room)) holds.wire.labels (done_size ∙ nothing),
+        nil_from_length _ (current_len ∙ no_byte),
+      ) at holds.gathered)
 
   -- where one has been read
   pub reads_absolute : rest ≡ [] → len ≡ 0 → 1 ≤ used → IsLabelsText text (labels_of (take used room)) true
   reads_absolute nil nothing some =
-      let ended_here = subst (λ (r : List ℕ). Gathered text r (labels_of (take used room))
-      (take len (drop (used + 1) room))) nil holds.gathered in
-      ends_absolute (subst (Gathered text [] (labels_of (take used room)))
-      (nil_from_length _ (current_len ∙ nothing)) ended_here)
+      ends_absolute (rw (nil, nil_from_length _ (current_len ∙ nothing)) at holds.gathered)
       (λ (e : labels_of (take used room) ≡ []). omega (arith, done_size, ap size_of e)) holds.wire.labels
-      (omega (arith, done_size, holds.inside))
+      (omega (arith, done_size))
 
   pub reads_relative : {n : ℕ} → rest ≡ [] → n ≡ len → 1 ≤ len
       → IsLabelsText text (labels_of (take (used + 1 + len) (set room used n))) false
   reads_relative {n} nil is some =
-      let ended_here = subst (λ (r : List ℕ). Gathered text r (labels_of (take used room))
-      (take len (drop (used + 1) room))) nil holds.gathered in
-      subst (λ (labels : List (List ℕ)). IsLabelsText text labels false)
-      (sym (ap labels_of (label_put n is some) ∙ labels_of-push (take used room)
-      (take len (drop (used + 1) room)) holds.wire))
-      (ends_relative ended_here (omega (arith, current_len)) (omega (arith, current_len, holds.short)) holds.wire.labels
-      (omega (arith, done_size, current_len, holds.fits some)))
-
-  pub wire_put : {n : ℕ} → n ≡ len → 1 ≤ len → IsWire (take (used + 1 + len) (set room used n))
-  wire_put {n} is some =
-      let current = take len (drop (used + 1) room) in
-      subst IsWire (sym (label_put n is some)) (IsWire-push (take used room) current holds.wire
-      (omega (arith, current_len)) (omega (arith, current_len, holds.short))
-      (omega (arith, current_len, holds.fits some, length-take-le used room (omega (arith, holds.size, holds.inside)))))
+      rw (labels_put n is some) (ends_relative (rw nil at holds.gathered) (omega (arith, current_len))
+      (omega (arith, current_len)) holds.wire.labels (omega (arith, done_size, current_len, holds.fits some)))

@@ -1,13 +1,11 @@
 -- The token that a text begins with, and which tokens take memory.
-use Rattle.std.proofs.Common.{◌≡◌, ℕ, refl, sym, ◌∙◌, ap, ◌≢◌, List, [], ◌∷◌, get_or, length, Option, Some, None, Bool}
-use Rattle.std.proofs.Common.{true, false}
-use Rattle.std.specs.Prelude.{◌==◌, ◌&&◌, codes, slice_get}
-use Rattle.std.specs.Str.{bytes_eq}
-use Rattle.std.proofs.lemmas.Bool.{ne_eqb}
+use Rattle.std.proofs.Common.{◌≡◌, ℕ, refl, sym, ◌∙◌, ap, ◌≢◌, List, [], ◌∷◌, get_or, length, Option, Some, None, false}
+use Rattle.std.proofs.Common.{arith}
+use Rattle.std.specs.Prelude.{◌&&◌, slice_get}
 use Rattle.base.specs.texts.Cuts.{TakesNone}
-use Rattle.base.specs.texts.Tokens.{Unread, begins_blank, begins_with, is_line_end, item, item_token, list_items, next}
-use Rattle.base.specs.texts.Tokens.{next_item, next_list, next_quoted, past_blanks, past_comment, quoted}
-use Rattle.base.specs.texts.Tokens.{token_or_fault, visible, within_line}
+use Rattle.base.specs.texts.Tokens.{Unread, begins_blank, is_line_end, item, list_items, next, next_item, next_list}
+use Rattle.base.specs.texts.Tokens.{next_quoted, past_blanks, past_comment, quoted, visible}
+use Rattle.std.proofs.lemmas.Bool.Decides.{nat_tests}
 
 quoted_takes : (cut : Option (List ℕ × List ℕ)) → TakesNone (next_quoted cut) → ⊥
 quoted_takes None never = never
@@ -17,42 +15,24 @@ list_takes : (cut : Option (List (List ℕ) × List ℕ)) → TakesNone (next_li
 list_takes None never = never
 list_takes (Some cut) never = never
 
-word_takes : (word : List ℕ) (rest : Unread) → TakesNone (token_or_fault (item_token word) rest) → ⊥
-word_takes word rest = go (bytes_eq word (codes "@")) refl (bytes_eq word (codes "$ORIGIN")) refl
-    (bytes_eq word (codes "$INCLUDE")) refl (bytes_eq word (codes "$TTL")) refl (begins_with 36 word) refl where
-      go : (at : Bool) → bytes_eq word (codes "@") ≡ at → (origin : Bool) → bytes_eq word (codes "$ORIGIN") ≡ origin
-          → (include : Bool) → bytes_eq word (codes "$INCLUDE") ≡ include
-          → (ttl : Bool) → bytes_eq word (codes "$TTL") ≡ ttl → (dollar : Bool) → begins_with 36 word ≡ dollar
-          → TakesNone (token_or_fault (item_token word) rest) → ⊥
-      go true a origin b include c ttl d dollar e = rw a (λ never. never)
-      go false a true b include c ttl d dollar e = rw (a, b) (λ never. never)
-      go false a false b true c ttl d dollar e = rw (a, b, c) (λ never. never)
-      go false a false b false c true d dollar e = rw (a, b, c, d) (λ never. never)
-      go false a false b false c false d true e = rw (a, b, c, d, e) (λ never. never)
-      go false a false b false c false d false e = rw (a, b, c, d, e) (λ never. never)
-
 item_takes : (cut : Option (List ℕ × List ℕ)) → TakesNone (next_item cut) → ⊥
 item_takes None never = never
-item_takes (Some cut) never = word_takes cut.0 (within_line cut.1) never
+item_takes (Some cut) never = grind (arith, nat_tests)
 
 -- what begins with a byte that is no line's end
 pub visible_takes : (text : List ℕ) (first : ℕ) → slice_get text 0 ≡ Some first → is_line_end first ≡ false
     → TakesNone (visible text) → ⊥
 unfolding visible
-visible_takes [] first is goes = absurd (cc is)
-visible_takes (c ∷ text) first is goes = go (c == 34) refl (c == 40) refl (c == 41) refl where
-  some_is : {x y : ℕ} → ◌≡◌ {A = Option ℕ} (Some x) (Some y) → x ≡ y
-  some_is same = cc
-
-  no_end : is_line_end c ≡ false
-  no_end = ap is_line_end (some_is is) ∙ goes
-
-  go : (quote : Bool) → (c == 34) ≡ quote → (opens : Bool) → (c == 40) ≡ opens → (closing : Bool) → (c == 41) ≡ closing
-      → TakesNone (visible (c ∷ text)) → ⊥
-  go true quotes opens o closing k = rw (no_end, quotes) (quoted_takes (quoted false text))
-  go false quotes true o closing k = rw (no_end, quotes, o) (list_takes (list_items (length text) text))
-  go false quotes false o true k = rw (no_end, quotes, o, k) (λ never. never)
-  go false quotes false o false k = rw (no_end, quotes, o, k) (item_takes (item false (c ∷ text)))
+visible_takes [] first is goes never = absurd (cc is)
+visible_takes (c ∷ text) first is goes never =
+    let same : c ≡ first = cc is in
+    grind (
+      arith,
+      nat_tests,
+      quoted_takes (quoted false text),
+      list_takes (list_items (length text) text),
+      item_takes (item false (c ∷ text)),
+    )
 
 -- the token that a text begins with, by its first byte
 pub visible_quoted : (text rest : List ℕ) (first : ℕ) → slice_get text 0 ≡ Some first → first ≡ 34
@@ -75,13 +55,7 @@ unfolding visible
 visible_item [] first is goes quotes opens closes = absurd (cc is)
 visible_item (c ∷ text) first is goes quotes opens closes =
     let same : c ≡ first = cc is in
-    rw (
-      ap is_line_end same ∙ goes,
-      ap (λ b. b == 34) same ∙ ne_eqb first 34 quotes,
-      ap (λ b. b == 40) same
-          ∙ ne_eqb first 40 opens,
-      ap (λ b. b == 41) same ∙ ne_eqb first 41 closes,
-    ) refl
+    grind (arith, nat_tests)
 
 -- what comes next where no blanks of a line's beginning do
 pub next_visible : (unread : Unread) (rest text : List ℕ) → (unread.at_line_start && begins_blank

@@ -1,8 +1,7 @@
 -- What a TTL's text says is the sum of its groups.
-use Rattle.std.proofs.Common.{◌≡◌, ◌⊎◌, inl, inr, ℕ, ◌+◌, ◌*◌, ◌^◌, ◌<◌, List, [], ◌∷◌, ◌++◌, length}
-use Rattle.std.proofs.Common.{refl, ap, sym, ◌∙◌, subst, arith, append_assoc, Option, Some, None, Bool, true, false}
-use Rattle.std.proofs.Common.{length-append}
-use Rattle.std.specs.Prelude.{unwrap_or, nat_lt, ◌==◌, ◌||◌, ◌↔◌}
+use Rattle.std.proofs.Common.{◌≡◌, ◌⊎◌, inl, inr, ℕ, ◌+◌, ◌*◌, ◌^◌, ◌<◌, List, [], ◌∷◌, ◌++◌, length, refl, ap, sym}
+use Rattle.std.proofs.Common.{◌∙◌, subst, arith, append_assoc, Option, Some, None, Bool, true, false, length-append}
+use Rattle.std.specs.Prelude.{unwrap_or, nat_lt, ◌↔◌}
 use Rattle.std.specs.Char.{digit_value, is_ascii_digit}
 use Rattle.std.specs.Int.{IsInRange}
 use Rattle.std.specs.Str.Parse.{AllDigits, IsNumeral, digits_value}
@@ -16,9 +15,7 @@ use Rattle.base.specs.texts.TtlText.{IsTtlText, SaysSeconds, group, groups, seco
 use Rattle.base.proofs.texts.TtlLemmas.{step_bare, step_digit, step_other, step_unit, ttl_end}
 
 is_digit : (c : ℕ) → digit_value c < 10 → is_ascii_digit c ≡ true
-is_digit c low =
-    let within = digit_from_value c low in
-    grind (arith, nat_tests, within)
+is_digit c low = grind (arith, nat_tests, digit_from_value c low)
 
 digit_is : (c : ℕ) → is_ascii_digit c ≡ true → IsInRange 48 57 c
 digit_is c is = grind (arith, nat_tests, is)
@@ -49,35 +46,16 @@ run sum before [] rest all = ap (λ (ds : List ℕ). ttl_sum sum (begun ds) rest
 run sum before (c ∷ ds) rest all =
     let is = is_digit c all.0 in
     step_digit sum (begun before) c (ds ++ rest) is
-    ∙ ap (λ (b : Option ℕ). ttl_sum sum b (ds ++ rest)) (sym (begun_push before c is))
-    ∙ run sum (before ++ c ∷ []) ds rest all.1
-    ∙ ap (λ (xs : List ℕ). ttl_sum sum (begun xs) rest) (append_assoc before (c ∷ []) ds)
+    ∙ rw (← begun_push before c is, run sum (before ++ c ∷ []) ds rest all.1) (simp append_assoc)
 
 no_digit : (c u : ℕ) → unit_of c ≡ Some u → is_ascii_digit c ≡ false
-no_digit c u is = go (is_ascii_digit c) refl where
-  none : is_ascii_digit c ≡ true → unit_of c ≡ None
-  none digit =
-      let within = digit_is c digit in
-      let s : (c == 115 || c == 83) ≡ false = grind (arith, nat_tests, within) in
-      let m : (c == 109 || c == 77) ≡ false = grind (arith, nat_tests, within) in
-      let h : (c == 104 || c == 72) ≡ false = grind (arith, nat_tests, within) in
-      let d : (c == 100 || c == 68) ≡ false = grind (arith, nat_tests, within) in
-      let w : (c == 119 || c == 87) ≡ false = grind (arith, nat_tests, within) in
-      rw (s, m, h, d, w) refl
-
-  go : (b : Bool) → is_ascii_digit c ≡ b → b ≡ false
-  go true digit = absurd (both (none digit)) where
-    both : unit_of c ≡ None → ⊥
-    both without = absurd (cc (sym is ∙ without))
-  go false digit = refl
+no_digit c u is = grind (arith, nat_tests)
 
 -- a group with its unit is added
 group_on : (sum u c : ℕ) (ds rest : List ℕ) → IsNumeral 10 ds → unit_of c ≡ Some u
     → ttl_sum sum None (ds ++ c ∷ rest) ≡ ttl_sum (sum + digits_value 10 ds * u) None rest
-group_on sum u c ds rest number unit =
-    run sum [] ds (c ∷ rest) number.1
-    ∙ ap (λ (b : Option ℕ). ttl_sum sum b (c ∷ rest)) (begun_some ds number.0)
-    ∙ step_unit sum (digits_value 10 ds) u c rest (no_digit c u unit) unit
+group_on sum u c ds rest number unit = rw (run sum [] ds (c ∷ rest) number.1, begun_some ds number.0)
+    (step_unit sum (digits_value 10 ds) u c rest (no_digit c u unit) unit)
 
 said : {text : List ℕ} {s : ℕ} (sum : ℕ) → SaysSeconds text s → ttl_sum sum None text ≡ Some (sum + s)
 said sum (seconds ds number) =
@@ -120,38 +98,28 @@ found [] (d ∷ ds) sum total all is =
           (sym (append-nil (d ∷ ds))) (seconds (d ∷ ds) (omega arith, all)),
       value,
     )
-found (c ∷ text) before sum total all is = go (is_ascii_digit c) refl before refl (unit_of c) refl (found text) where
-  go : (digit : Bool) → is_ascii_digit c ≡ digit → (ds : List ℕ) → before ≡ ds → (u : Option ℕ) → unit_of c ≡ u
+found (c ∷ text) before sum total all is = go (is_ascii_digit c) refl (unit_of c) refl before all is (found text) where
+  go : (digit : Bool) → is_ascii_digit c ≡ digit → (u : Option ℕ) → unit_of c ≡ u → (before : List ℕ)
+      → AllDigits 10 before → ttl_sum sum (begun before) (c ∷ text) ≡ Some total
       → ((b : List ℕ) (s t : ℕ) → AllDigits 10 b → ttl_sum s (begun b) text ≡ Some t → Rest (b ++ text) s t)
       → Rest (before ++ c ∷ text) sum total
-  go true digit ds same u unit again =
+  go true digit u unit before all is again =
       let low : digit_value c < 10 = omega (arith, digit_value_digit c (digit_is c digit), (digit_is c digit).1) in
       let on = ap (λ (b : Option ℕ). ttl_sum sum b text) (begun_push before c digit)
       ∙ sym (step_digit sum (begun before) c text digit) ∙ is in
       subst (λ (xs : List ℕ). Rest xs sum total) (append_assoc before (c ∷ []) text)
       (again (before ++ c ∷ []) sum total (digits_push 10 before c all low) on)
-  go false digit [] same u unit again = absurd
-      (cc (sym is ∙ ap (λ (ds : List ℕ). ttl_sum sum (begun ds) (c ∷ text)) same ∙ step_bare sum c text digit))
-  go false digit (d ∷ ds) same None unit again =
-      absurd (cc (sym is ∙ ap (λ (xs : List ℕ). ttl_sum sum (begun xs) (c ∷ text)) same
-      ∙ step_other sum (digits_value 10 (d ∷ ds)) c text digit unit))
-  go false digit (d ∷ ds) same (Some u) unit again =
-      let all_of : AllDigits 10 (d ∷ ds) = subst (AllDigits 10) same all in
-      let on = sym (step_unit sum (digits_value 10 (d ∷ ds)) u c text digit unit)
-      ∙ ap (λ (xs : List ℕ). ttl_sum sum (begun xs) (c ∷ text)) (sym same) ∙ is in
-      subst (λ (xs : List ℕ). Rest (xs ++ c ∷ text) sum total) (sym same)
-      (group_back sum total u c (d ∷ ds) text (omega arith, all_of) unit
-      (again [] (sum + digits_value 10 (d ∷ ds) * u) total tt on))
+  go false digit u unit [] all is again = absurd (cc (sym is ∙ step_bare sum c text digit))
+  go false digit None unit (d ∷ ds) all is again =
+      absurd (cc (sym is ∙ step_other sum (digits_value 10 (d ∷ ds)) c text digit unit))
+  go false digit (Some u) unit (d ∷ ds) all is again =
+      group_back sum total u c (d ∷ ds) text (omega arith, all) unit
+      (again [] (sum + digits_value 10 (d ∷ ds) * u) total tt
+      (sym (step_unit sum (digits_value 10 (d ∷ ds)) u c text digit unit) ∙ is))
 
 below_is : (o : Option ℕ) (n : ℕ) → below_limit o ≡ Some n → (o ≡ Some n) × (n < 2 ^ 32)
 below_is None n is = absurd (cc is)
-below_is (Some m) n is = go (nat_lt m (2 ^ 32)) refl is where
-  go : (b : Bool) → nat_lt m (2 ^ 32) ≡ b → below_limit (Some m) ≡ Some n
-      → (◌≡◌ {A = Option ℕ} (Some m) (Some n)) × (n < 2 ^ 32)
-  go true small all =
-      let same = some_same m n (cc (rw small at all)) in
-      (ap Some same, grind (arith, nat_tests, small, same))
-  go false big all = absurd (cc (rw big at all))
+below_is (Some m) n is = grind (arith, nat_tests)
 
 below_some : (n : ℕ) → n < 2 ^ 32 → below_limit (Some n) ≡ Some n
 below_some n small = let is : nat_lt n (2 ^ 32) ≡ true = grind (arith, nat_tests) in rw is refl

@@ -1,11 +1,10 @@
 -- Sums of TTL texts only grow.
-use Rattle.std.proofs.Common.{◌≡◌, ℕ, zero, suc, ◌+◌, ◌*◌, ◌^◌, ◌<◌, ◌≤◌, List, [], ◌∷◌, length, drop, get_or, refl, ap}
-use Rattle.std.proofs.Common.{sym, ◌∙◌, arith, Option, Some, None, Bool, true, false}
-use Rattle.std.specs.Prelude.{unwrap_or, ◌==◌, ◌||◌, nat_lt}
+use Rattle.std.proofs.Common.{◌≡◌, ℕ, ◌+◌, ◌*◌, ◌^◌, ◌<◌, ◌≤◌, List, [], ◌∷◌, length, drop, get_or, refl, ap, sym, ◌∙◌}
+use Rattle.std.proofs.Common.{arith, Option, Some, None, true, false}
+use Rattle.std.specs.Prelude.{unwrap_or, nat_lt}
 use Rattle.std.specs.Char.{is_ascii_digit}
 use Rattle.std.proofs.lemmas.Bool.Decides.{nat_tests}
 use Rattle.std.proofs.lemmas.List.{drop_more, drop_all}
-use Rattle.std.proofs.Math.Nat.{mul-suc}
 use Rattle.base.specs.texts.Ttl.{below_limit, digit_after, grouped, ttl_of, ttl_on, ttl_sum, unit_of}
 
 too_many : (n : ℕ) → 2 ^ 32 ≤ n → below_limit (Some n) ≡ None
@@ -13,20 +12,10 @@ too_many n big = let no : nat_lt n (2 ^ 32) ≡ false = grind (arith, nat_tests)
 
 -- a unit has a second at least
 unit_some : (c u : ℕ) → unit_of c ≡ Some u → 1 ≤ u
-unit_some c u is = go (c == 115 || c == 83) (c == 109 || c == 77) (c == 104 || c == 72) (c == 100 || c == 68)
-    (c == 119 || c == 87) refl refl refl refl refl where
-      go : (s m h d w : Bool) → (c == 115 || c == 83) ≡ s → (c == 109 || c == 77) ≡ m → (c == 104 || c == 72) ≡ h
-          → (c == 100 || c == 68) ≡ d → (c == 119 || c == 87) ≡ w → 1 ≤ u
-      go true m h d w a b e f g = let same : 1 ≡ u = cc (rw a at is) in omega arith
-      go false true h d w a b e f g = let same : 60 ≡ u = cc (rw (a, b) at is) in omega arith
-      go false false true d w a b e f g = let same : 3600 ≡ u = cc (rw (a, b, e) at is) in omega arith
-      go false false false true w a b e f g = let same : 86400 ≡ u = cc (rw (a, b, e, f) at is) in omega arith
-      go false false false false true a b e f g = let same : 604800 ≡ u = cc (rw (a, b, e, f, g) at is) in omega arith
-      go false false false false false a b e f g = absurd (cc (rw (a, b, e, f, g) at is))
+unit_some c u is = grind (arith, nat_tests)
 
 times_some : (n u : ℕ) → 1 ≤ u → n ≤ n * u
-times_some n zero some = absurd (omega arith)
-times_some n (suc u) some = omega (arith, mul-suc n u)
+times_some n u some = grind arith
 
 pub ttl_end : (sum : ℕ) (begun : Option ℕ) → ttl_sum sum begun [] ≡ Some (sum + unwrap_or begun 0)
 unfolding ttl_sum
@@ -55,27 +44,20 @@ step_other sum n c rest is unit = step_on sum (Some n) c rest None is (ap (group
 
 pub ttl_big : (text : List ℕ) (sum : ℕ) (begun : Option ℕ) → 2 ^ 32 ≤ sum + unwrap_or begun 0
     → below_limit (ttl_sum sum begun text) ≡ None
-ttl_big [] sum begun big = ap below_limit (ttl_end sum begun) ∙ too_many (sum + unwrap_or begun 0) big
-ttl_big (c ∷ text) sum begun big = go (is_ascii_digit c) refl begun refl (unit_of c) refl
-    (λ s b more. ttl_big text s b more) where
-      go : (digit : Bool) → is_ascii_digit c ≡ digit → (b : Option ℕ) → begun ≡ b → (u : Option ℕ) → unit_of c ≡ u
-          → ((s : ℕ) (b' : Option ℕ) → 2 ^ 32 ≤ s + unwrap_or b' 0 → below_limit (ttl_sum s b' text) ≡ None)
-          → below_limit (ttl_sum sum begun (c ∷ text)) ≡ None
-      go true is b at u unit again =
-          let more : unwrap_or begun 0 ≤ digit_after begun c = omega arith in
-          ap below_limit (step_digit sum begun c text is)
-          ∙ again sum (Some (digit_after begun c)) (omega (arith, big, more))
-      go false is None at u unit again = ap (λ (b : Option ℕ). below_limit (ttl_sum sum b (c ∷ text))) at
-          ∙ ap below_limit (step_bare sum c text is)
-      go false is (Some n) at None unit again =
-          ap (λ (b : Option ℕ). below_limit (ttl_sum sum b (c ∷ text))) at
-          ∙ ap below_limit (step_other sum n c text is unit)
-      go false is (Some n) at (Some u) unit again =
-          let same : unwrap_or begun 0 ≡ n = ap (λ (b : Option ℕ). unwrap_or b 0) at in
-          let more : n ≤ n * u = times_some n u (unit_some c u unit) in
-          ap (λ (b : Option ℕ). below_limit (ttl_sum sum b (c ∷ text))) at
-          ∙ ap below_limit (step_unit sum n u c text is unit)
-          ∙ again (sum + n * u) None (omega (arith, big, same, more))
+unfolding ttl_sum
+ttl_big [] sum begun big = too_many (sum + unwrap_or begun 0) big
+ttl_big (c ∷ text) sum None big =
+    let again = ttl_big text sum (Some (digit_after None c)) (omega arith) in
+    grind (arith, nat_tests)
+ttl_big (c ∷ text) sum (Some n) big =
+    go (unit_of c) refl (ttl_big text sum (Some (digit_after (Some n) c)) (omega arith)) (ttl_big text) where
+      go : (u : Option ℕ) → unit_of c ≡ u → below_limit (ttl_sum sum (Some (digit_after (Some n) c)) text) ≡ None
+          → ((s : ℕ) (b : Option ℕ) → 2 ^ 32 ≤ s + unwrap_or b 0 → below_limit (ttl_sum s b text) ≡ None)
+          → below_limit (ttl_sum sum (Some n) (c ∷ text)) ≡ None
+      go None unit digit again = rw unit (grind (arith, nat_tests))
+      go (Some u) unit digit again =
+          let on = again (sum + n * u) None (omega (arith, times_some n u (unit_some c u unit))) in
+          rw unit (grind (arith, nat_tests))
 
 pub digit_too_many : (sum : ℕ) (begun : Option ℕ) (c : ℕ) (rest : List ℕ) → is_ascii_digit c ≡ true
     → 2 ^ 32 ≤ digit_after begun c → below_limit (ttl_sum sum begun (c ∷ rest)) ≡ None

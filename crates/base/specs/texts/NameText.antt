@@ -1,8 +1,7 @@
 -- The text of names (RFC 1035, 5.1; RFC 4343, 2.1).
 use Rattle.base.specs.declared.limits.TheConstants.{MAX_NAME}
-use Rattle.std.specs.Prelude.{◌≡◌, ◌≢◌, ℕ, Bool, true, false, ◌+◌, ◌-◌, ◌*◌, ◌/◌, ◌%◌, ◌<◌, ◌≤◌, ◌&&◌}
-use Rattle.std.specs.Prelude.{◌||◌, ◌==◌, List, [], ◌∷◌, ◌++◌, map, nat_lt, nat_le, if◌then◌else◌, Option, Some, None}
-use Rattle.std.specs.Prelude.{IsTrue}
+use Rattle.std.specs.Prelude.{◌≡◌, ◌≢◌, ℕ, Bool, true, false, ◌+◌, ◌-◌, ◌*◌, ◌/◌, ◌%◌, ◌<◌, ◌≤◌, ◌&&◌, ◌||◌, ◌==◌, List}
+use Rattle.std.specs.Prelude.{[], ◌∷◌, ◌++◌, map, nat_lt, nat_le, if◌then◌else◌, Option, Some, None, IsTrue}
 use Rattle.std.specs.Char.{is_ascii_digit}
 use Rattle.std.specs.List.{flat_map, join_with_byte}
 use Rattle.base.specs.names.Labels.{NameValue, AreLabels, plain_len}

@@ -8,8 +8,6 @@ use Rattle.base.proofs.texts.ParseLemmas.{Holds, holds_none, holds_byte, holds_d
 use Rattle.base.proofs.texts.ParseLemmas.{stops_at_dot, stops_at_start, reads_absolute, reads_relative, wire_put}
 use Rattle.base.proofs.name.parse.gather_labels.Goals as goal
 use Rattle.base.proofs.name.parse.gather_labels.Goals.{then-len-ge-MAX_LABEL-via-then-len-ge-MAX_LABEL}
-use Rattle.base.proofs.name.parse.gather_labels.Goals.{}
-use Rattle.base.proofs.name.parse.gather_labels.Goals.{}
 use Rattle.base.proofs.name.parse.gather_labels.Goals.{then-len-ge-MAX_LABEL-via-else-len-ge-MAX_LABEL+then-used-len-ge-MAX_LABELS}
 
 pub chars-init : goal.chars-init

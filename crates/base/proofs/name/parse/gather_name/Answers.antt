@@ -4,8 +4,9 @@ use Rattle.std.proofs.lemmas.Slice.{take-put_mid}
 use Rattle.std.specs.Option.{IfNone, option_copied}
 use Rattle.base.specs.names.Labels.{IsWire, labels_of}
 use Rattle.base.specs.texts.NameText.{IsLabelsText, IsNameText, is_absolute, is_relative}
-use Rattle.base.proofs.texts.NamedLemmas.{no_name, completes, completes_not, IsWire-appended}
+use Rattle.base.proofs.texts.NamedLemmas.{no_name, IsWire-appended}
 use Rattle.base.proofs.name.parse.gather_name.Goals as goal
+use Rattle.base.proofs.texts.NameOfLaws.{completes, completes_not}
 
 -- what holds is said of whatever is answered
 if_none : {A : Type 0} (o : Option A) {P : Type 0} → P → IfNone o P

@@ -4,11 +4,12 @@ use Rattle.base.specs.declared.rr_key.RrKey.{RrKey}
 use Rattle.rr.specs.RecordSet.{set_of}
 use Rattle.rr.specs.SetChanges.{insert}
 use Rattle.txt.specs.ZoneSets.{AreKeyed, IsKeyed, ZoneSets}
-use Rattle.txt.proofs.Gathering.{IsGrown, follows, joins, on_ok}
+use Rattle.txt.proofs.Gathering.{IsGrown, follows, joins}
 use Rattle.txt.proofs.KeptSets.{enters}
 use Rattle.txt.proofs.SetsInOrder.{kept_last}
 use Rattle.txt.proofs.zone.sets.add_last.Goals as goal
 use Rattle.txt.proofs.zone.sets.add_last.Goals.{in-Some+in_ok-map_err-in-Some, in-None+in_ok-set-in-None}
+use Rattle.std.proofs.lemmas.Result.{on_ok_weaker}
 
 pub insert-requires : goal.insert-requires
 insert-requires c =
@@ -17,7 +18,7 @@ insert-requires c =
     (subst AreKeyed c.in-Some.ensures.some c.requires.kept)))
 
 grown : (c : goal.After-push) → OnOk c.push.result (IsGrown c.args.run.now c.args.key c.args.entry c.push.new.self)
-grown c = on_ok c.push.result (λ made. elim c.match-take_last.branch [
+grown c = on_ok_weaker c.push.result (λ made. elim c.match-take_last.branch [
   | in-Some+in_ok-map_err-in-Some w ↦
       let changed : c.match-take_last.set ≡ (insert w.in-Some.set c.args.entry 0).1 = search rules in
       joins c.args.run.now c.take_last.new.run c.args.key w.in-Some.set c.match-take_last.set c.args.entry
@@ -31,13 +32,13 @@ grown c = on_ok c.push.result (λ made. elim c.match-take_last.branch [
 ]) c.push.ensures.items
 
 pub returns-clause-sets : goal.returns-clause-sets
-returns-clause-sets c = on_ok c.push.result (λ made. made.sets) (grown c)
+returns-clause-sets c = on_ok_weaker c.push.result (λ made. made.sets) (grown c)
 
 pub returns-clause-kept : goal.returns-clause-kept
-returns-clause-kept c = on_ok c.push.result (λ made. made.kept) (grown c)
+returns-clause-kept c = on_ok_weaker c.push.result (λ made. made.kept) (grown c)
 
 pub returns-clause-ordered : goal.returns-clause-ordered
-returns-clause-ordered c = on_ok c.push.result (λ made. made.ordered) (grown c)
+returns-clause-ordered c = on_ok_weaker c.push.result (λ made. made.ordered) (grown c)
 
 pub returns-clause-last : goal.returns-clause-last
-returns-clause-last c = on_ok c.push.result (λ made. made.last) (grown c)
+returns-clause-last c = on_ok_weaker c.push.result (λ made. made.last) (grown c)

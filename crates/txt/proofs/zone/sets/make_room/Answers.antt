@@ -1,4 +1,4 @@
-use Rattle.std.proofs.Common.{rules, ◌≡◌, [], ◌∷◌, ◌++◌, refl, ap, sym, ◌∙◌, subst, false, true, List, Ok}
+use Rattle.std.proofs.Common.{rules, ◌≡◌, [], ◌∷◌, ◌++◌, ap, sym, ◌∙◌, subst, false, true, List, Ok}
 use Rattle.std.specs.BTreeMap.{BTreeMap, insert_entry, is_at}
 use Rattle.std.specs.Map.{lookup}
 use Rattle.std.specs.Prelude.{is_some, ⊤}
@@ -27,7 +27,7 @@ noted : (soas new : List (RrKey × ⊤)) (es : KeyedRecords) (r : Record RData) 
 noted soas new es r knows soa unknown is = record {
   soas = subst (λ (ks : List (RrKey × ⊤)). KnowsSoas ks (es ++ (record_key r, r) ∷ [])) (sym is)
       (knows_new soas es (record_key r, r) tt knows);
-  sets = added_unknown (gathered es) (record_key r) r refl (sym (knows (record_key r) soa) ∙ unknown)
+  sets = added_unknown (gathered es) r (sym (knows (record_key r) soa) ∙ unknown)
       ∙ ap Ok (sym (with_last [] es (record_key r, r)));
 }
 
@@ -37,7 +37,7 @@ left : (soas new : List (RrKey × ⊤)) (es : KeyedRecords) (r : Record RData) �
 left soas new es r knows none is = record {
   soas = subst (λ (ks : List (RrKey × ⊤)). KnowsSoas ks (es ++ (record_key r, r) ∷ [])) (sym is)
       (knows_other soas es (record_key r, r) none knows);
-  sets = added_other (gathered es) (record_key r) r refl none (gathered_in_order es)
+  sets = added_other (gathered es) r none (gathered_in_order es)
       ∙ ap Ok (sym (with_last [] es (record_key r, r)));
 }
 

@@ -7,7 +7,7 @@ use Rattle.base.specs.RrKey.{key_cmp}
 use Rattle.base.specs.contracts.rr_key.RrKeyOrd.TheImpl.Laws.{matches_eq-law}
 use Rattle.base.specs.declared.rr_key.RrKey.{RrKey}
 use Rattle.std.specs.Prelude.{◌≢◌}
-use Rattle.txt.proofs.SetsInOrder.{above_by_last, last_run}
+use Rattle.txt.proofs.SetsInOrder.{above_by_last, one_last}
 use Rattle.txt.proofs.zone.sets.take_last.Goals as goal
 
 after : (o : Ordering) → not (is_eq o) ≡ true → o ≢ Less → o ≡ Greater
@@ -34,8 +34,6 @@ returns-clause-some c =
     let key = c.args.key.now in
     let same = equal (key_cmp key last.0)
     (ap not (sym (matches_eq-law key last.0)) ∙ sym c.ne.ensures ∙ c.if-ne.false) in
-    last_run c.args.run.now c.args.run.now c.pop.new.self
-    (c.in_ok-set.field-0-0, c.in_ok-set.set) key refl c.in_ok-set.ensures.items (
-      last.1,
-      sym c.in_ok-last.ensures ∙ ap (λ (k : RrKey). Some (k, last.1)) (sym (key_cmp-exact key last.0 same)),
-    )
+    one_last c.args.run.now c.pop.new.self (c.in_ok-set.field-0-0, c.in_ok-set.set) key last.1
+    c.in_ok-set.ensures.items
+    (sym c.in_ok-last.ensures ∙ ap (λ (k : RrKey). Some (k, last.1)) (sym (key_cmp-exact key last.0 same)))

@@ -1,4 +1,4 @@
-use Rattle.std.proofs.Common.{rules, ◌≡◌, [], ◌∷◌, ap, ◌∙◌, length, reverse, arith, refl, Some, None, Err}
+use Rattle.std.proofs.Common.{rules, ◌≡◌, [], ◌∷◌, ap, ◌∙◌, length, reverse, arith, refl, Some, None, Err, List, ◌++◌}
 use Rattle.std.proofs.lemmas.List.{reverse-append, length-reverse, nil_from_length}
 use Rattle.std.proofs.lemmas.Grind.{common_steps}
 use Rattle.std.specs.String.{string_bytes}
@@ -12,6 +12,11 @@ use Rattle.txt.proofs.PlaceLemmas.{fails_at, stands_at}
 use Rattle.txt.proofs.Stack.{remains_begins, remains_went, remains_none, remains_back, remains_fails, remains_deep}
 use Rattle.txt.proofs.Stack.{remains_missing, remains_opened, work_went, work_back, work_opened}
 use Rattle.txt.proofs.zone.texts.read_texts.Goals as goal
+
+-- the text that was left last is the first of those below
+stacked : {after : List Frame} (below : List Frame) (f : Frame) → after ≡ below ++ f ∷ []
+    → reverse after ≡ f ∷ reverse below
+stacked below f is = ap reverse is ∙ reverse-append below (f ∷ [])
 
 pub entries-init : goal.entries-init
 entries-init c =
@@ -32,21 +37,14 @@ entries-preserved c =
     c.in_default-entry.not-Include found c.in-Ok.ensures
 
 pub entries-smaller-in_default : goal.entries-smaller-in_default
-entries-smaller-in_default c =
-    let stack : reverse c.entries.below.items ≡ c.in-Some-pop.frame ∷ reverse c.pop.new.self.items =
-    ap reverse c.in-Some-pop.ensures.items
-    ∙ reverse-append c.pop.new.self.items (c.in-Some-pop.frame ∷ []) in
-    rw stack (work_back (texts_in c.args.includes.now) max_depth
-    (reverse c.pop.new.self.items) c.in-Some-pop.frame c.entries.lexer)
+entries-smaller-in_default c = rw (stacked _ _ c.in-Some-pop.ensures.items) (work_back (texts_in c.args.includes.now)
+    max_depth (reverse c.pop.new.self.items) c.in-Some-pop.frame c.entries.lexer)
 
 pub entries-preserved-in_default : goal.entries-preserved-in_default
 entries-preserved-in_default c =
     let found = rw c.in_default.is at c.in_ok-entry.ensures in
-    let stack : reverse c.entries.below.items ≡ c.in-Some-pop.frame ∷ reverse c.pop.new.self.items =
-    ap reverse c.in-Some-pop.ensures.items
-    ∙ reverse-append c.pop.new.self.items (c.in-Some-pop.frame ∷ []) in
-    remains_back c.entries.invariant c.in-Some-pop.frame (reverse c.pop.new.self.items) c.set_origin.new.self stack
-    c.set_origin.ensures found (search rules)
+    remains_back c.entries.invariant c.in-Some-pop.frame (reverse c.pop.new.self.items) c.set_origin.new.self
+    (stacked _ _ c.in-Some-pop.ensures.items) c.set_origin.ensures found (search rules)
 
 pub returns-in_default-pop : goal.returns-in_default-pop
 returns-in_default-pop c =
@@ -80,20 +78,10 @@ entries-smaller-in-Include c =
     let name = string_bytes c.in_ok-name-in-Include.name in
     let same : c.in-Include.name.now ≡ name = search rules in
     let found = rw same at (rw c.in-Include.is at (rw c.in-Some.is at c.in_ok-entry.ensures)) in
-    let f : Frame = record {
-      text = c.entries.text;
-      lexer = c.next_entry.new.lexer;
-      origin =
-          c.in_ok-origin-in-Include.origin;
-      name = c.in_ok-name-in-Include.name;
-      left = c.in_ok-left-in-Include.left;
-    } in
-    let text : texts_in c.args.includes.now name ≡ Some c.as_str-text.result.now =
-    search rules in
-    let stack : reverse c.push.new.self.items ≡ f ∷ reverse c.entries.below.items =
-    ap reverse c.in_ok-push-in-Include.ensures.items ∙ reverse-append c.entries.below.items (f ∷ []) in
-    rw (stack, c.new-lexer-in-Include.ensures)
-    (work_opened (texts_in c.args.includes.now) max_depth (reverse c.entries.below.items) f c.entries.lexer found
+    let text : texts_in c.args.includes.now name ≡ Some c.as_str-text.result.now = search rules in
+    rw c.new-lexer-in-Include.ensures (work_opened (texts_in c.args.includes.now) max_depth
+    (reverse c.entries.below.items) (reverse c.push.new.self.items) _ c.entries.lexer
+    (stacked _ _ c.in_ok-push-in-Include.ensures.items) found
     (omega (arith, length-reverse c.entries.below.items)) text)
 
 pub entries-preserved-in-Include : goal.entries-preserved-in-Include
@@ -101,22 +89,13 @@ entries-preserved-in-Include c =
     let name = string_bytes c.in_ok-name-in-Include.name in
     let same : c.in-Include.name.now ≡ name = search rules in
     let found = rw same at (rw c.in-Include.is at (rw c.in-Some.is at c.in_ok-entry.ensures)) in
-    let f : Frame = record {
-      text = c.entries.text;
-      lexer = c.next_entry.new.lexer;
-      origin = c.in_ok-origin-in-Include.origin;
-      name = c.in_ok-name-in-Include.name;
-      left = c.in_ok-left-in-Include.left;
-    } in
-    let text : texts_in c.args.includes.now name ≡ Some c.as_str-text.result.now =
-    search rules in
+    let text : texts_in c.args.includes.now name ≡ Some c.as_str-text.result.now = search rules in
     let here : c.in_ok-left-in-Include.left ≡ include_place (symbols c.entries.lexer) = search rules in
-    let stack : reverse c.push.new.self.items ≡ f ∷ reverse c.entries.below.items =
-    ap reverse c.in_ok-push-in-Include.ensures.items ∙ reverse-append c.entries.below.items (f ∷ []) in
     let origin : c.in_ok-origin-in-Include.origin ≡ c.entries.context.origin = cc c.in_ok-origin-in-Include.ensures in
-    remains_opened c.entries.invariant f c.as_str-text.result.now (reverse c.push.new.self.items)
-    c.new-lexer-in-Include.result stack c.new-lexer-in-Include.ensures refl found here origin
-    (omega (arith, length-reverse c.entries.below.items)) text (search rules)
+    remains_opened c.entries.invariant _ c.as_str-text.result.now (reverse c.push.new.self.items)
+    c.new-lexer-in-Include.result (stacked _ _ c.in_ok-push-in-Include.ensures.items) c.new-lexer-in-Include.ensures
+    refl
+    found here origin (omega (arith, length-reverse c.entries.below.items)) text (search rules)
 
 pub returns-in_default-error : goal.returns-in_default-error
 returns-in_default-error c =
