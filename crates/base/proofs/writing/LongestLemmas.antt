@@ -222,6 +222,19 @@ module _ (a : State) (wire : List ℕ) where
             ∙ ap (λ (u : State). (name xs (length a.bytes + (i + n)) u.suffixes).suffixes) (sym now);
       }
 
+  -- where all of it is stored, a name is its end
+  pub stored-end : IsLabelRun wire → size_before a.suffixes (labels_of wire) ≡ 0
+      → after (name (labels_of wire)) a ≡ after (end_of (longest_found a.suffixes (labels_of wire))) a
+  stored-end whole none =
+      let r : Option ℕ = longest_found a.suffixes (labels_of wire) in
+      let bytes : (piece_at (name (labels_of wire)) a).bytes ≡ (piece_at (end_of r) a).bytes =
+      name_is a wire whole (length a.bytes) a.suffixes
+      ∙ ap (λ (n : ℕ). take n wire ++ (piece_at (end_of r) a).bytes) none in
+      let ts : (piece_at (name (labels_of wire)) a).suffixes ≡ (piece_at (end_of r) a).suffixes =
+      nothing_stored a.suffixes a.suffixes (labels_of wire) (length a.bytes) none refl
+      ∙ sym (end-stores r (length a.bytes) a.suffixes) in
+      λ k. record a { bytes = a.bytes ++ bytes k; suffixes = ts k }
+
   -- where all are stored, the name is written but for its end
   pub storing-end : (i : ℕ) (s : State) → IsLabelRun wire → IsStoring a wire i s
       → size_before a.suffixes (labels_of wire) ≤ i

@@ -15,9 +15,6 @@ use crate::name::Name;
 use crate::wire::encoder::append::AppendError;
 use crate::wire::{BinEncodable, BinEncoder};
 
-/// The two bytes of a pointer to offset 0 (RFC 1035, 4.1.4).
-const POINTER: u16 = 0xC000;
-
 impl BinEncodable for Name {
     ghost word = { λ n. NameAt n.labels };
 
@@ -63,6 +60,9 @@ impl Name {
     {
         let wire = self.as_wire();
         let (kept, found) = encoder.find_longest(wire);
+        if kept == 0 {
+            return encoder.append_end(found);
+        }
         let at = encoder.len();
         encoder.append(&wire[..kept])?;
         let mut before = 0;
@@ -70,10 +70,7 @@ impl Name {
             encoder.store(&wire[before..], at + before)?;
             before += 1 + usize::from(wire[before]);
         }
-        match found {
-            Some(offset) => encoder.append_u16(POINTER + offset),
-            None => encoder.append_byte(0),
-        }
+        encoder.append_end(found)
     }
 
     /// Writes the name without compression, letters as they are; whether it is absolute isn't written. Neither looks

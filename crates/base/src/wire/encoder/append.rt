@@ -1,16 +1,21 @@
 //! Appends bytes.
 
+ghost use Rattle.base.specs.declared.limits.TheConstants.{POINTER_LIMIT};
 ghost use Rattle.std.specs.Int.{w16, to_be_bytes};
+ghost use Rattle.std.specs.Option.{ForSome};
 ghost use Rattle.std.specs.Prelude.{◌≡◌, ◌+◌, ◌^◌, ◌<◌, [], ◌∷◌, Err, length, OnErr};
 ghost use Rattle.base.specs.writing.AppendError.{refusal, told};
 ghost use Rattle.base.specs.writing.Laws.{Keeps};
 ghost use Rattle.base.specs.writing.Wire.{state_of};
-ghost use Rattle.base.specs.writing.Written.{Exactly, just};
+ghost use Rattle.base.specs.writing.Written.{Exactly, just, pointer_or};
 ghost use Rattle.base.specs.declared.wire.encoder.append.AppendError.TheVariants as reasons;
 
 use crate::error::ProtoError;
 use crate::wire::encoder::BinEncoder;
 use std::alloc::AllocError;
+
+/// The two bytes of a pointer to offset 0 (RFC 1035, 4.1.4).
+const POINTER: u16 = 0xC000;
 
 /// Why bytes were not appended. It is small, since a refusal takes room, and is cleared, in each call that might give
 /// it.
@@ -115,5 +120,24 @@ impl<'a> BinEncoder<'a> {
         self.buffer.push_reserved(high);
         self.buffer.push_reserved(low);
         Ok(())
+    }
+
+    /// Appends the end of a name: a pointer to an offset, or the zero byte where there is none (RFC 1035, 4.1.4).
+    ///
+    /// # Errors
+    ///
+    /// As of `append`.
+    #[inline(always)]
+    pub(crate) fn append_end(&mut self, offset: Option<u16>) -> Result<(), AppendError>
+        // A pointer can name the offset.
+        requires { ForSome offset (λ o. o < POINTER_LIMIT) }
+        ensures keeps { Keeps (state_of self.old) (state_of self.new) }
+        ensures exact { Exactly (pointer_or (just (0 ∷ [])) offset) (state_of self.old)
+            (state_of self.new) (told result) }
+    {
+        match offset {
+            Some(offset) => self.append_u16(POINTER + offset),
+            None => self.append_byte(0),
+        }
     }
 }

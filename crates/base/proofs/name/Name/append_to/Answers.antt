@@ -1,14 +1,15 @@
 use Rattle.std.proofs.Common.{ℕ, ◌+◌, ◌≤◌, ◌∙◌, List, length, length-append, refl, ap, sym, arith, take}
-use Rattle.std.specs.Prelude.{Option, [], ◌∷◌}
+use Rattle.std.specs.Prelude.{Option, []}
 use Rattle.std.proofs.lemmas.Result.{err_from_is_err_and}
 use Rattle.base.specs.writing.AppendError.{refusal, told}
 use Rattle.base.specs.names.Labels.{labels_of}
 use Rattle.base.specs.writing.Compression.{longest_found, size_before}
 use Rattle.base.specs.writing.SaysName.{found_as}
 use Rattle.base.specs.writing.Wire.{state_of}
-use Rattle.base.specs.writing.Written.{after, just, name, piece_at, pointer}
+use Rattle.base.specs.writing.Written.{after, just, name, piece_at}
 use Rattle.base.proofs.writing.LawLemmas.{Keeps-then}
 use Rattle.base.proofs.writing.LongestLemmas.{end_of, name_is, storing-absent, storing-step, storing-end}
+use Rattle.base.proofs.writing.LongestLemmas.{stored-end}
 use Rattle.base.proofs.writing.WrittenLemmas.{Exactly-from, Exactly-refused}
 use Rattle.base.proofs.name.Name.append_to.Goals as goal
 
@@ -48,34 +49,29 @@ returns-in_err-append-clause-exact c =
     rw (is.1, is.2) (Exactly-refused (Unit {0}) (Unit {0}) e (name c.args.self.now.labels) (just kept) a a z z refl
     (omega (arith, short)) c.in_err-append.ensures.exact)
 
-pub returns-in-Some-clause-exact : goal.returns-in-Some-clause-exact
-returns-in-Some-clause-exact c =
+pub returns-then-kept-eq0-clause-exact : goal.returns-then-kept-eq0-clause-exact
+returns-then-kept-eq0-clause-exact c =
+    let a = state_of c.args.encoder.now in
+    let wire = c.as_wire-wire.ensures in
+    Exactly-from (told c.append_end.result) (name c.args.self.now.labels) (end_of c.find_longest-kept.result.1) a a
+    (state_of c.append_end.new.self)
+    (ap (λ (labels : List (List ℕ)). after (name labels) a) (sym wire.cut)
+    ∙ stored-end a c.as_wire-wire.result.now wire.whole (omega (arith, c.find_longest-kept.ensures.kept))
+    ∙ ap (λ (r : Option ℕ). after (end_of r) a) (sym c.find_longest-kept.ensures.found))
+    c.append_end.ensures.exact
+
+pub returns-clause-exact : goal.returns-clause-exact
+returns-clause-exact c =
     let a = state_of c.args.encoder.now in
     let s = state_of c.loop-before.encoder in
     let wire = c.as_wire-wire.ensures in
-    Exactly-from (told c.append_u16.result) (name c.args.self.now.labels) (pointer c.in-Some.offset) a s
-    (state_of c.append_u16.new.self)
+    Exactly-from (told c.append_end-2.result) (name c.args.self.now.labels) (end_of c.find_longest-kept.result.1) a s
+    (state_of c.append_end-2.new.self)
     (ap (λ (labels : List (List ℕ)). after (name labels) a) (sym wire.cut)
     ∙ storing-end a c.as_wire-wire.result.now c.loop-before.before s wire.whole c.loop-before.invariant
     (omega (arith, c.loop-before-test.false, c.find_longest-kept.ensures.kept))
-    ∙ ap (λ (r : Option ℕ). after (end_of r) s) (sym c.find_longest-kept.ensures.found ∙ c.in-Some.is))
-    c.append_u16.ensures.exact
+    ∙ ap (λ (r : Option ℕ). after (end_of r) s) (sym c.find_longest-kept.ensures.found))
+    c.append_end-2.ensures.exact
 
-pub returns-in-None-clause-exact : goal.returns-in-None-clause-exact
-returns-in-None-clause-exact c =
-    let a = state_of c.args.encoder.now in
-    let s = state_of c.loop-before.encoder in
-    let wire = c.as_wire-wire.ensures in
-    Exactly-from (told c.append_byte.result) (name c.args.self.now.labels) (just (0 ∷ [])) a s
-    (state_of c.append_byte.new.self)
-    (ap (λ (labels : List (List ℕ)). after (name labels) a) (sym wire.cut)
-    ∙ storing-end a c.as_wire-wire.result.now c.loop-before.before s wire.whole c.loop-before.invariant
-    (omega (arith, c.loop-before-test.false, c.find_longest-kept.ensures.kept))
-    ∙ ap (λ (r : Option ℕ). after (end_of r) s) (sym c.find_longest-kept.ensures.found ∙ c.in-None.is))
-    c.append_byte.ensures.exact
-
-pub returns-in-Some-clause-keeps : goal.returns-in-Some-clause-keeps
-returns-in-Some-clause-keeps c = Keeps-then c.loop-before.invariant.keeps c.append_u16.ensures.keeps
-
-pub returns-in-None-clause-keeps : goal.returns-in-None-clause-keeps
-returns-in-None-clause-keeps c = Keeps-then c.loop-before.invariant.keeps c.append_byte.ensures.keeps
+pub returns-clause-keeps : goal.returns-clause-keeps
+returns-clause-keeps c = Keeps-then c.loop-before.invariant.keeps c.append_end-2.ensures.keeps
