@@ -212,7 +212,7 @@ const BYTES: &[u8] = b"hosts\n$INCLUDE more\n\nmorewww 300 A 192.0.2.2\n";
 
 /// What opening a handle answers, and what it tells.
 #[derive(Drop)]
-struct Opened {
+struct OpenAnswer {
     answer: i64,
     found: FaultFound,
     name: [u8; 4],
@@ -225,7 +225,7 @@ fn opened_with(
     text: &[u8],
     included: &[Included],
     handle: &mut ZoneHandle,
-) -> Opened {
+) -> OpenAnswer {
     let mut name = [b'-'; 4];
     let mut words = [b'-'; 24];
     let mut found = FaultFound {
@@ -237,7 +237,7 @@ fn opened_with(
     let answer = fuzsbanel_zone_open(
         alloc, ORIGIN, text, included, BYTES, handle, &mut name, &mut words, &mut found,
     );
-    Opened {
+    OpenAnswer {
         answer,
         found,
         name,
@@ -246,7 +246,13 @@ fn opened_with(
 }
 
 /// Whether this place, this name and these words were told, both as far as they have room.
-fn tells(opened: &Opened, line: usize, column: usize, name: &[u8; 4], words: &[u8; 24]) -> bool {
+fn tells(
+    opened: &OpenAnswer,
+    line: usize,
+    column: usize,
+    name: &[u8; 4],
+    words: &[u8; 24],
+) -> bool {
     opened.found.line == line
         && opened.found.column == column
         && opened.name == *name
@@ -270,7 +276,7 @@ fn a_zone_includes_texts(rt: HostRuntime) {
     let lines: &[u8] = b"$ORIGIN example.\nwww.example. 300 IN A 192.0.2.2\n";
     let are_lines = out.starts_with(lines);
     assert!(rt; none.answer == -20 && tells(&none, 1, 10, b"----", b"no text named hosts to i"));
-    assert!(rt; one.answer == -20 && tells(&one, 1, 10, b"host", b"no text named more to in"));
+    assert!(rt; one.answer == -20 && tells(&one, 2, 10, b"host", b"no text named more to in"));
     assert!(rt; other.answer == -23 && tells(&other, 2, 9, b"----", b"invalid data for type A-"));
     assert!(rt; opened.answer == 0 && tells(&opened, 0, 0, b"----", b"------------------------"));
     assert!(rt; written == lines.len() as i64 && are_lines);
