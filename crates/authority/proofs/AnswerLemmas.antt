@@ -309,18 +309,6 @@ module _ (z : Zone) (t : RecordType) (done : List (Record RData)) (n : NameValue
 
 -- ---- additional records
 
--- below a cut there is glue, for a referral
-pub glue_there : (z : Zone) (t : RecordType) (n : NameValue) (class : DNSClass) (sets : BTreeMap RrKey SetValue)
-    (found : Found) (s : _) (f : Finding) → found ≡ codes.Cut s → IsFound class sets n found f
-    → addresses_found z true t n f ≡ records z n (key_of n t)
-glue_there z t n class sets codes.Outside s f e h = cc
-glue_there z t n class sets codes.NoName s f e h = cc
-glue_there z t n class sets codes.NoData s f e h = cc
-glue_there z t n class sets (codes.Cut x) s f e h = ap (addresses_found z true t n) h.1
-glue_there z t n class sets (codes.Alias x target) s f e h = cc
-glue_there z t n class sets (codes.Data x) s f e h = cc
-glue_there z t n class sets (codes.All found) s f e h = cc
-
 -- a walk over records
 module _ (z : Zone) (glued : Bool) (given : List (Record RData)) where
   abbrev pub extras_after : List (Record RData) → List (Record RData) → List (Record RData)

@@ -31,11 +31,6 @@ use Rattle.capi.specs.contracts.zone_handle.loose.Loose as loose
 abbrev pub both : Val → Val → Val
 both v w = vstruct (vcons v (vcons w vnil))
 
-pub both_tt : (x y : Bool) → T x → T y → T (x && (y && true))
-both_tt true true s t = tt
-both_tt true false s t = absurd t
-both_tt false y s t = absurd s
-
 module _ (R Z : RattleType) (L : Laws Z) (g : Ghosts Z.Denot) where
   abbrev pub Loose : RattleType
   Loose = loose.the_row R Z g
@@ -84,20 +79,6 @@ module _ (P Q : RattleType) where
         (both v w ∷ []) refl $ fjoin t $
         fpack t (Valss (P ∷ Q ∷ [])) (within (record { name = []; args = []; types = []; fields = P ∷ Q ∷ [] })
         (x, (y, tt)) (both v w ∷ [])) (v ∷ [], (w ∷ [], tt)) $ s)
-
-    pub two_out : K → P.mir ≡ layout P ∷ [] → Q.mir ≡ layout Q ∷ [] → Lawful 𝓛 P → Lawful 𝓛 Q → (us : List Val)
-        → ((v w : Val) → Good (layout P) v → Good (layout Q) w → us ≡ both v w ∷ []
-        → Seq K 𝓛 (‵ (P.own_val x (v ∷ [])) ∷ ‵ (Q.own_val y (w ∷ [])) ∷ Γ) G)
-        → Seq K 𝓛 (‵ (Two.own_val (x, (y, tt)) us) ∷ Γ) G
-    two_out t eP eQ LP LQ us k = fpick t (λ vss. fsplit t $ feq_l t
-        (λ e. fsplit3 t $ peeks t P (Is P) (shows 𝓛 P) x vss.0
-        (λ i. move t (1 ∷ []) $ peeks t Q (Is Q) (shows 𝓛 Q) y vss.1.0 (λ j.
-        let g₁ = one (layout P) vss.0 (subst (λ (ρs : List mir.Syntax.Ty). Typed ρs vss.0) eP (LP.typed x vss.0 i)) in
-        let g₂ = one (layout Q) vss.1.0 (subst (λ (ρs : List mir.Syntax.Ty). Typed ρs vss.1.0) eQ
-        (LQ.typed y vss.1.0 j)) in
-        rewrite t 0 (λ (ws : List Val). ‵ (Q.own_val y ws)) g₂.1 refl $ rewrite t 1
-        (λ (ws : List Val). ‵ (P.own_val x ws)) g₁.1 refl $ move t (2 ∷ []) $ drop t $ move t (1 ∷ 0 ∷ []) $
-        k g₁.0 g₂.0 g₁.2 g₂.2 (mathlib.Core.Path.◌∙◌ e (λ n. vstruct (of_list (g₁.1 n ++ (g₂.1 n ++ []))) ∷ []))))))
 
 module _ (P Q : RattleType) {M : Type 1} {𝓤 : Ura M} {𝓛 : Logic 𝓤} {K : Type 0} {Γ : List (Item 𝓤)} {G : Goal 𝓤 𝓛.H}
   where

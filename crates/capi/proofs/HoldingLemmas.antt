@@ -188,25 +188,3 @@ pub ends_shared : (old new : Holding) → is_shared old ≡ true → EndsAlone (
 ends_shared (holdings.Own zone) new shared = absurd cc
 ends_shared (holdings.Shared zone) new shared = record { stays = λ alone. absurd cc; answered = λ n is. absurd cc }
 ends_shared holdings.Empty new shared = record { stays = λ alone. absurd cc; answered = λ n is. absurd cc }
-
--- and one whose zone is neither shared nor its own
-pub ends_empty : (old new : Holding) → is_own new ≡ false → is_shared new ≡ false → parts_in new ≡ parts_in old
-    → EndsAlone (Some old) (Some new) (neg_ℤ (pos closed))
-ends_empty (holdings.Own zone) (holdings.Own other) own shared same = absurd cc
-ends_empty (holdings.Own zone) (holdings.Shared other) own shared same = absurd cc
-ends_empty (holdings.Own zone) holdings.Empty own shared same = absurd cc
-ends_empty (holdings.Shared zone) new own shared same =
-    record { stays = λ alone. absurd cc; answered = λ n is. absurd cc }
-ends_empty holdings.Empty new own shared same = record { stays = λ alone. absurd cc; answered = λ n is. absurd cc }
-
--- raising the serial is refused for memory where the zone is shared alone
-pub never_refused : (old new : Option Holding) (result : ℤ) → IsRaisingHeld old new result → IsAlone old
-    → result ≢ neg_ℤ (pos 3)
-never_refused None new result is alone refused = absurd alone
-never_refused (Some (holdings.Own zone)) new result (inl (z, is, (origin, (Some serial, raised, told)))) alone refused =
-    absurd cc
-never_refused (Some (holdings.Own zone)) new result (inl (z, is, (origin, (None, raised, told)))) alone refused =
-    absurd cc
-never_refused (Some (holdings.Own zone)) new result (inr (shared, same, is)) alone refused = absurd cc
-never_refused (Some (holdings.Shared zone)) new result is alone refused = absurd cc
-never_refused (Some holdings.Empty) new result is alone refused = absurd cc
