@@ -14,6 +14,8 @@ IMPORT = re.compile(r"^\s*(?:ghost )?use (Rattle[\w.]*)\.\{([^}]*)\};?$", re.M)
 MODULE = re.compile(r"^\s*(?:ghost )?use (Rattle[\w.]*) as (\S+?);?$", re.M)
 ATTRIBUTE = re.compile(r"(\w+)::(specs|proofs)::([\w:]+)::([\w-]+)")
 HEAD = re.compile(r"^\s*(?:(?:pub|abbrev|unfoldable)\s+)*(?:(?:record|data|ruleset)\s+)?([^\s:(){}\[\],.]+)\s*(.*)$")
+# The files in which the toolchain looks for the proof of a function.
+OF_FUNCTION = re.compile(r".*/(Answers|Invariants|Proof)\.antt")
 KIND = re.compile(r"^\s*(?:pub )?(?:(?:record|data) .*:|ruleset .*=)")
 
 
@@ -92,7 +94,7 @@ def unused():
         written.update(WORD.findall(text))
     for module, file in files.items():
         begins.update(file.used_by(file.loose))
-        of_function = file.path.count("/") > 3
+        of_function = OF_FUNCTION.fullmatch(file.path)
         begins.update((module, name) for name in file.names if of_function or name in written)
     seen, left = set(), [one for one in begins if one[0] in files and one[1] in files[one[0]].names]
     while left:
