@@ -11,9 +11,9 @@ use Rattle.std.specs.Option.{option_or}
 use Rattle.std.specs.Ordering.{eq_by_cmp, nat_cmp}
 use Rattle.std.proofs.lemmas.Bool.{cases_Bool, cond-true, cond-false, eqb-true, eqb-false, eq-eqb, ne_eqb}
 use Rattle.std.proofs.lemmas.Bool.{ltb-true, ltb-false}
-use Rattle.std.proofs.lemmas.List.{drop-append-le, take-append-le, take_all, drop_all, drop-drop}
+use Rattle.std.proofs.lemmas.List.{drop-append-le, take-append-le}
 use Rattle.std.proofs.lemmas.List.{get_or_append_left}
-use Rattle.std.proofs.lemmas.List.{get_or-append_right, get_or_past, get_or_default, get_or-set_same, get_or-set_other}
+use Rattle.std.proofs.lemmas.List.{get_or_past, get_or_default, get_or-set_same, get_or-set_other}
 use Rattle.std.proofs.lemmas.List.{length-set, map_push, take_more_set}
 use Rattle.std.proofs.lemmas.List.Elements.{All-push, All-weaker}
 use Rattle.std.proofs.lemmas.Slice.{take-put_mid}
@@ -95,37 +95,6 @@ module _ (copied more : List ℕ) where
       (entries_of_stay first there)
 
 -- ---- what is copied after the others
-
-module _ (copied labels : List ℕ) where
-  abbrev whole : List ℕ
-  whole = copied ++ (length labels ∷ labels)
-
-  new_len : len_at whole (length copied + 1) ≡ length labels
-  new_len =
-      let at : length copied + 1 - 1 ≡ length copied = omega arith in
-      ap (λ (i : ℕ). get_or whole i 0) at ∙ get_or-append_right copied (length labels ∷ labels) (length copied)
-      (length copied) 0 refl (omega arith)
-      ∙ ap (λ (i : ℕ). get_or (length labels ∷ labels) i 0) none where
-        none : length copied - length copied ≡ zero
-        none = omega arith
-
-  after : (xs : List ℕ) → drop (length xs + 1) (xs ++ (length labels ∷ labels)) ≡ labels
-  after xs =
-      let at = drop-append-le (length xs) xs (length labels ∷ labels) (omega arith) in
-      sym (drop-drop 1 (length xs) (xs ++ (length labels ∷ labels)))
-      ∙ ap (drop 1) (at ∙ ap (λ (ys : List ℕ). ys ++ (length labels ∷ labels))
-      (drop_all (length xs) xs (omega arith)))
-
-  pub new_from : labels_from whole (length copied + 1) ≡ labels
-  new_from =
-      let place = length copied + 1 in
-      let all : take (place + length labels - place) labels ≡ labels = take_all _ labels (omega arith) in
-      ap (λ (k : ℕ). slice_range whole place (place + k)) new_len
-      ∙ ap (λ (xs : List ℕ). take (place + length labels - place) xs) (after copied)
-      ∙ all
-
-  pub new_inside : IsInside whole (length copied + 1)
-  new_inside some = omega (arith, new_len, length-append copied (length labels ∷ labels))
 
 same_parts : (front own rest : List ℕ) (len : ℕ) → length own + length rest ≡ len
     → ((front ++ len ∷ []) ++ own) ++ rest ≡ front ++ (length (own ++ rest) ∷ (own ++ rest))

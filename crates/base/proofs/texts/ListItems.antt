@@ -95,15 +95,6 @@ pub record Listing (text rest : List ℕ) (items : List (List ℕ)) : Type 0 whe
   pub enough : length rest ≤ steps
   pub whole : puts items (list_items steps rest) ≡ list_items (length text) text
 
-pub listed_is : (steps : ℕ) (text : List ℕ) (found : Element) → element (past_separators false text) ≡ found
-    → list_items (suc steps) text ≡ listed (list_items steps) found
-unfolding list_items
-listed_is steps text found is = ap (listed (list_items steps)) is
-
-pub listed_zero : (text : List ℕ) → list_items 0 text ≡ None
-unfolding list_items
-listed_zero text = refl
-
 listed_on : (steps : ℕ) (text : List ℕ) (found : Element) → length text ≤ steps
     → element (past_separators false text) ≡ found → list_items steps text ≡ listed (list_items (steps - 1)) found
 unfolding list_items element

@@ -76,10 +76,6 @@ labels_from copied place = slice_range copied place (place + len_at copied place
 abbrev pub labels_in : List ℕ → ℕ → Option (List ℕ)
 labels_in copied place = if place == 0 then None else Some (labels_from copied place)
 
--- the labels at an offset, which has one of these places
-abbrev pub placed : List ℕ → List ℕ → ℕ → Option (List ℕ)
-placed copied places q = labels_in copied (get_or places q 0)
-
 -- the bytes that were copied: those inside the value, unless there were more
 abbrev pub copied_bytes : ℕ → List ℕ → List ℕ → List ℕ
 copied_bytes used first [] = take used first
