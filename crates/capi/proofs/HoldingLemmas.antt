@@ -19,11 +19,10 @@ use Rattle.rr.specs.RecordSet.{SetValue}
 use Rattle.std.specs.Option.{option_and_then}
 use Rattle.std.specs.declared.alloc.Global.{Global}
 use Rattle.capi.specs.Answer.{Asked}
-use Rattle.capi.specs.Holding.{EndsAlone, IsAlone, Shares, is_own, is_shared, zone_held, zone_in}
-use Rattle.capi.specs.Refusals.{closed}
+use Rattle.capi.specs.Holding.{EndsAlone, IsAlone, Shares, is_shared, zone_held, zone_in}
 use Rattle.capi.specs.ZoneHandle.{IsHeld, IsOpen, IsOpenAt, IsRaisedIn, IsRaising, IsServed, IsSharing, IsSpared}
 use Rattle.capi.specs.ZoneHandle.{IsUpdated, IsUpdating}
-use Rattle.capi.specs.ZoneHandle.{IsRaisingHeld, ZoneParts, parts_in, parts_of}
+use Rattle.capi.specs.ZoneHandle.{IsRaisingHeld, ZoneParts, parts_of}
 use Rattle.capi.specs.declared.refusal.Refusal.{Refusal}
 use Rattle.capi.specs.declared.zone_handle.held.HeldZone.{HeldZone}
 use Rattle.capi.specs.declared.zone_handle.holding.Holding.{Holding}
@@ -188,3 +187,15 @@ pub ends_shared : (old new : Holding) → is_shared old ≡ true → EndsAlone (
 ends_shared (holdings.Own zone) new shared = absurd cc
 ends_shared (holdings.Shared zone) new shared = record { stays = λ alone. absurd cc; answered = λ n is. absurd cc }
 ends_shared holdings.Empty new shared = record { stays = λ alone. absurd cc; answered = λ n is. absurd cc }
+
+-- raising the serial is refused for memory where the zone is shared alone
+pub never_refused : (old new : Option Holding) (result : ℤ) → IsRaisingHeld old new result → IsAlone old
+    → result ≢ neg_ℤ (pos 3)
+never_refused None new result is alone refused = absurd alone
+never_refused (Some (holdings.Own zone)) new result (inl (z, is, (origin, (Some serial, raised, told)))) alone refused =
+    absurd cc
+never_refused (Some (holdings.Own zone)) new result (inl (z, is, (origin, (None, raised, told)))) alone refused =
+    absurd cc
+never_refused (Some (holdings.Own zone)) new result (inr (shared, same, is)) alone refused = absurd cc
+never_refused (Some (holdings.Shared zone)) new result is alone refused = absurd cc
+never_refused (Some holdings.Empty) new result is alone refused = absurd cc
