@@ -35,9 +35,11 @@ stored labels at s = if nat_le POINTER_LIMIT at then s
     else record s { suffixes = s.suffixes ++ record { labels = labels; offset = at } ∷ [] }
 
 -- the first four bytes and the next four as numbers, the lowest first, added in four bytes; the first four where there
--- are fewer than eight, and 0 where there are fewer than four
+-- are fewer than eight, and two or three where there are no more
 abbrev pub front_number : List ℕ → ℕ
 front_number (a ∷ b ∷ c ∷ d ∷ e ∷ f ∷ g ∷ h ∷ rest) =
     (from_le_bytes w32 (a ∷ b ∷ c ∷ d ∷ []) + from_le_bytes w32 (e ∷ f ∷ g ∷ h ∷ [])) % 2 ^ 32
 front_number (a ∷ b ∷ c ∷ d ∷ rest) = from_le_bytes w32 (a ∷ b ∷ c ∷ d ∷ [])
+front_number (a ∷ b ∷ c ∷ []) = from_le_bytes w32 (a ∷ b ∷ c ∷ 0 ∷ [])
+front_number (a ∷ b ∷ []) = from_le_bytes w32 (a ∷ b ∷ 0 ∷ 0 ∷ [])
 front_number bytes = 0

@@ -1,13 +1,15 @@
--- The table of suffixes: a list in order of offset, and an ordered index of it.
+-- The table of suffixes: a list in order of offset, and what finds its suffixes.
 use Rattle.base.specs.declared.limits.TheConstants.{POINTER_LIMIT}
-use Rattle.std.specs.Prelude.{◌≡◌, ◌≢◌, ℕ, ◌+◌, ◌-◌, ◌*◌, ◌/◌, ◌%◌, ◌^◌, ◌<◌, ◌≤◌, ◌++◌, List, Option, Some, Vec, All, length}
-use Rattle.std.specs.Prelude.{drop, get_or}
+use Rattle.std.specs.Prelude.{◌≡◌, ◌≢◌, ℕ, zero, suc, ◌+◌, ◌-◌, ◌*◌, ◌/◌, ◌%◌, ◌^◌, ◌<◌, ◌≤◌, List, [], ◌∷◌, ◌++◌, Option, None}
+use Rattle.std.specs.Prelude.{Some, Vec, All, length, take, drop, get_or}
 use Rattle.std.specs.BTreeMap.{BTreeMap}
 use Rattle.std.specs.Int.{w32, to_be_bytes}
 use Rattle.std.specs.List.{AllPairs, slice_range}
+use Rattle.std.specs.Option.{option_or}
 use Rattle.std.specs.declared.alloc.Global.{Global}
 use Rattle.base.specs.Keys.{indexed_at}
-use Rattle.base.specs.declared.wire.suffix_table.TheConstants.{MARK_SHIFT, OF_THE_END, SPREAD}
+use Rattle.base.specs.declared.wire.suffix_table.TheConstants.{CELLS, CELL_SHIFT, OF_THE_NEXT, SPREAD, WAYS}
+use Rattle.base.specs.declared.wire.suffix_table.first.TheConstants.{HINT_SHIFT}
 use Rattle.base.specs.declared.wire.suffix_table.first.Entry.{Entry}
 use Rattle.base.specs.names.Labels.{wire_of, labels_of, IsLabelRun, IsWire}
 use Rattle.base.specs.writing.State.{Stored, front_number}
@@ -33,31 +35,62 @@ pub record IsEntry (text : List ℕ) (e : Entry) : Type 0 where
   pub front : e.front ≡ front_number (bytes_of text e)
   pub near : e.offset < POINTER_LIMIT
 
--- a number of the first eight bytes, of the last eight, and of how many there are
+-- the place among the hints of those of a number: the highest bits of a product, for which all its bits count
+abbrev pub slot_of : ℕ → ℕ
+slot_of front = ((front * SPREAD) % 2 ^ 32) / 2 ^ HINT_SHIFT
+
+-- each of the first suffixes has a hint at the place for its number, that suffix or another
+abbrev pub AreHinted : List ℕ → List Entry → Type 0
+AreHinted hints es = All (λ (e : Entry). 0 < get_or hints (slot_of e.front) 0) es
+
+-- a number and those of each eight bytes, all counted
+abbrev pub numbered : ℕ → List ℕ → ℕ
+numbered n (a ∷ b ∷ c ∷ d ∷ e ∷ f ∷ g ∷ h ∷ rest) =
+    numbered (((n * OF_THE_NEXT) % 2 ^ 32 + front_number (a ∷ b ∷ c ∷ d ∷ e ∷ f ∷ g ∷ h ∷ [])) % 2 ^ 32) rest
+numbered n bytes = n
+
+-- a number of how many bytes there are, of each eight of them, and of the last eight
 abbrev pub key_number : List ℕ → ℕ
 key_number bytes =
-    ((front_number bytes + (front_number (drop (length bytes - 8) bytes) * OF_THE_END) % 2 ^ 32) % 2 ^ 32 + length bytes) % 2 ^ 32
+    ((numbered (length bytes) bytes * OF_THE_NEXT) % 2 ^ 32 + front_number (drop (length bytes - 8) bytes)) % 2 ^ 32
 
 -- the key of a suffix of these bytes: their number, the highest byte first, and all of them
 abbrev pub index_key : List ℕ → List ℕ
 index_key bytes = to_be_bytes w32 (key_number bytes) ++ bytes
 
--- the mark of a suffix of these bytes: the highest bits of a product of their number, for which all its bits count
-abbrev pub mark_of : List ℕ → ℕ
-mark_of bytes = ((key_number bytes * SPREAD) % 2 ^ 32) / 2 ^ MARK_SHIFT
+-- the first of the cells for suffixes of these bytes: the highest bits of a product of their number say which
+abbrev pub cell_of : List ℕ → ℕ
+cell_of bytes = (((key_number bytes * SPREAD) % 2 ^ 32) / 2 ^ CELL_SHIFT) * WAYS
 
--- each suffix has its mark
-abbrev pub AreMarked : List ℕ → List Stored → Type 0
-AreMarked marks ts = All (λ (t : Stored). get_or marks (mark_of (wire_of t.labels)) 0 ≡ 1) ts
+-- those cells
+abbrev pub cells_of : List ℕ → List ℕ → List ℕ
+cells_of cells bytes = take WAYS (drop (cell_of bytes) cells)
+
+-- how many cells stand before the first free one
+abbrev pub taken : List ℕ → ℕ
+taken [] = 0
+taken (zero ∷ cells) = 0
+taken (suc place ∷ cells) = suc (taken cells)
+
+-- where a suffix of these labels is spelled: one at the places that cells have, one less than each says, up to the first
+-- free cell; where no cell is free, else as is said
+abbrev pub found_at : List Stored → Option ℕ → List (List ℕ) → List ℕ → Option ℕ
+found_at ts otherwise labels [] = otherwise
+found_at ts otherwise labels (zero ∷ cells) = None
+found_at ts otherwise labels (suc place ∷ cells) =
+    option_or (found_in (take 1 (drop place ts)) labels) (found_at ts otherwise labels cells)
 
 -- the offset that the index has for a suffix of these bytes
 abbrev pub offset_in : BTreeMap (Vec ℕ Global) ℕ → List ℕ → Option ℕ
 offset_in index bytes = indexed_at index (index_key bytes)
 
--- The first suffixes stand in a list alone, the others in a second one with an index of it; all stand in order of
--- offset, each once. The index finds each of the others at its bytes, and nothing else.
-pub record IsTable (find : List ℕ → Option ℕ) (first others : List Stored) : Type 0 where
+-- The first suffixes stand in a list alone, the others in a second one; all stand in order of offset, each once. Each of
+-- the others is found by its cells, or by the index where none of them was free, and nothing else is.
+pub record IsTable (find : List ℕ → Option ℕ) (cells : List ℕ) (first others : List Stored) : Type 0 where
   pub order : InOrder (first ++ others)
   pub near : All (λ t. t.offset < POINTER_LIMIT) others
-  pub finds : (labels : List (List ℕ)) → find (wire_of labels) ≡ found_in others labels
+  pub finds : (labels : List (List ℕ))
+      → found_at others (find (wire_of labels)) labels (cells_of cells (wire_of labels)) ≡ found_in others labels
+  pub indexed : (labels : List (List ℕ)) (o : ℕ) → find (wire_of labels) ≡ Some o → found_in others labels ≡ Some o
   pub only : (bytes : List ℕ) (o : ℕ) → find bytes ≡ Some o → IsLabelRun bytes
+  pub made : 0 < length others → CELLS ≤ length cells

@@ -17,7 +17,7 @@ pub struct Suffix {
 }
 
 /// A number of the first eight bytes, by which most labels are told from others; of the first four where there are
-/// fewer than eight, and 0 where there are fewer than four.
+/// fewer than eight, and of all where there are fewer than four.
 pub(crate) fn front_number(wire: &[u8]) -> u32
     ensures { result ≡ front_number wire.now }
 {
@@ -27,6 +27,8 @@ pub(crate) fn front_number(wire: &[u8]) -> u32
             first.wrapping_add(u32::from_le_bytes([*e, *f, *g, *h]))
         }
         [a, b, c, d, ..] => u32::from_le_bytes([*a, *b, *c, *d]),
+        [a, b, c] => u32::from_le_bytes([*a, *b, *c, 0]),
+        [a, b] => u32::from_le_bytes([*a, *b, 0, 0]),
         _ => 0,
     }
 }
@@ -54,6 +56,13 @@ impl Suffix {
             labels: Labels::from_slice(alloc, wire, false)?,
             offset,
         })
+    }
+
+    /// The offset.
+    pub(crate) fn offset(&self) -> u16
+        ensures { result ≡ self.now.offset }
+    {
+        self.offset
     }
 
     /// The labels, each with its length before it.

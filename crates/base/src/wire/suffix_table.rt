@@ -1,10 +1,10 @@
 //! The suffixes of names that were written, with an index of them (RFC 1035, 4.1.4).
 
 ghost use Rattle.base.specs.declared.limits.TheConstants.{MAX_LABELS, POINTER_LIMIT};
-ghost use Rattle.base.specs.declared.wire.suffix_table.TheConstants.{MARKS};
-ghost use Rattle.std.specs.Prelude.{◌≡◌, ◌≢◌, ◌<◌, ◌≤◌, ◌++◌, ◌∷◌, [], get_or, length, take, ℕ, All, Any, MatchOption, OnOk, OnErr, IfSome, IsTrue, ◌↔◌};
+ghost use Rattle.base.specs.declared.wire.suffix_table.TheConstants.{CELLS, WAYS};
+ghost use Rattle.std.specs.Prelude.{◌≡◌, ◌≢◌, ◌<◌, ◌≤◌, ◌+◌, ◌++◌, ◌∷◌, [], length, take, All, Any, MatchOption, OnOk, OnErr, IfOk, IfSome};
 ghost use Rattle.base.specs.names.Labels.{labels_of, IsWire};
-ghost use Rattle.base.specs.writing.Suffixes.{index_key, key_number, mark_of, offset_in};
+ghost use Rattle.base.specs.writing.Suffixes.{cell_of, cells_of, found_at, index_key, key_number, offset_in, taken};
 ghost use Rattle.base.specs.writing.Written.{found_in};
 
 mod first;
@@ -26,47 +26,76 @@ pub trait HasSuffixes {
 /// Room for the key of the longest suffix: a number of four bytes, and the labels of a name (RFC 1035, 2.3.4).
 const KEY: usize = 258;
 
-/// How many marks there are: one for each number of the fifteen highest bits of a product.
-const MARKS: usize = 32_768;
+/// How many cells there are.
+const CELLS: usize = 16_384;
 
-/// How far those bits stand above the lowest.
-const MARK_SHIFT: u32 = 17;
+/// How many of them suffixes of one number may take: so a look-up passes few, however numbers are chosen.
+const WAYS: usize = 8;
+
+/// How far the bits of a product that say which cells stand above the lowest: there are 2^11 times as many as `WAYS`.
+const CELL_SHIFT: u32 = 21;
 
 /// An odd number near 2^32 divided by the golden ratio: all bits of a number count for the highest bits of its product
 /// with this one.
 const SPREAD: u32 = 0x9E37_79B1;
 
-/// What the number of the last bytes of labels is multiplied with, so that it isn't that of equal first bytes.
-const OF_THE_END: u32 = 31;
+/// What a number is multiplied with before that of the next bytes is added, so that it tells in which order they stand.
+const OF_THE_NEXT: u32 = 31;
 
-/// A number of labels by which most are told from others, however long they are alike at the front or at the end: of
-/// their first eight bytes, of their last eight, and of how many there are.
+/// How many bytes a number is made of at once.
+const STEP: usize = 8;
+
+/// A number of labels by which most are told from others: of how many bytes there are, of each eight of them, and of the
+/// last eight.
 fn key_number(wire: &[u8]) -> u32
     requires { length wire.now ≤ MAX_LABELS }
     ensures { result ≡ key_number wire.now }
 {
-    let last = front_number(&wire[wire.len().saturating_sub(8)..]);
-    front_number(wire)
-        .wrapping_add(last.wrapping_mul(OF_THE_END))
-        .wrapping_add(wire.len() as u32)
+    let mut number = wire.len() as u32;
+    let mut rest = wire;
+    while rest.len() >= STEP {
+        number = number
+            .wrapping_mul(OF_THE_NEXT)
+            .wrapping_add(front_number(rest));
+        rest = &rest[STEP..];
+    }
+    let last = front_number(&wire[wire.len().saturating_sub(STEP)..]);
+    number.wrapping_mul(OF_THE_NEXT).wrapping_add(last)
 }
 
-/// The mark of a suffix of these labels.
-fn mark_of(wire: &[u8]) -> usize
+/// The first of the cells for suffixes of these labels.
+fn cell_of(wire: &[u8]) -> usize
     requires { length wire.now ≤ MAX_LABELS }
-    ensures value { result ≡ mark_of wire.now }
-    ensures below { result < MARKS }
+    ensures value { result ≡ cell_of wire.now }
+    ensures below { result + WAYS ≤ CELLS }
 {
-    (key_number(wire).wrapping_mul(SPREAD) >> MARK_SHIFT) as usize
+    (key_number(wire).wrapping_mul(SPREAD) >> CELL_SHIFT) as usize * WAYS
 }
 
-/// Whether the mark of a suffix of these labels is set.
-fn is_marked(marks: &[u8], wire: &[u8]) -> bool
-    requires { length wire.now ≤ MAX_LABELS }
-    ensures { IsTrue result ↔ (get_or marks.now (mark_of wire.now) 0 ≡ 1) }
+/// Which of these cells is the first free one.
+fn free_cell(cells: &[u16]) -> Option<usize>
+    ensures { MatchOption result (taken cells.now ≡ length cells.now)
+        (λ way. (way ≡ taken cells.now) × (way < length cells.now)) }
 {
-    let mark = mark_of(wire);
-    mark < marks.len() && marks[mark] == 1
+    let mut way = 0;
+    for place in cells {
+        if *place == 0 {
+            return Some(way);
+        }
+        way += 1;
+    }
+    None
+}
+
+/// Makes the cells, where there are none yet.
+fn make_cells(cells: &mut Vec<u16>) -> Result<(), AllocError>
+    ensures ok { OnOk result (CELLS ≤ length cells.new.items) }
+    ensures same { CELLS ≤ length cells.old.items → cells.new.items ≡ cells.old.items }
+{
+    if cells.len() < CELLS {
+        cells.resize(CELLS, 0)?;
+    }
+    Ok(())
 }
 
 /// Puts the key of a suffix of these labels at the front of the room, and answers how many bytes it has. Their number
@@ -82,43 +111,43 @@ fn key_into(wire: &[u8], room: &mut [u8; KEY]) -> usize
     len
 }
 
-/// Makes the marks, where there are none yet.
-fn make_marks(marks: &mut Vec<u8>) -> Result<(), AllocError>
-    ensures ok { OnOk result (MARKS ≤ length marks.new.items) }
-    // A mark that is set stays.
-    ensures same { (k : ℕ) → get_or marks.old.items k 0 ≡ 1 → get_or marks.new.items k 0 ≡ 1 }
+/// The key of a suffix of these labels, in memory of its own.
+#[inline(never)]
+fn key_of(alloc: Global, wire: &[u8]) -> Result<Vec<u8>, AllocError>
+    requires { length wire.now ≤ MAX_LABELS }
+    ensures { IfOk result (λ key. key.items ≡ index_key wire.now) }
 {
-    if marks.len() < MARKS {
-        marks.resize(MARKS, 0)?;
-    }
-    Ok(())
+    let mut room = [0; KEY];
+    let len = key_into(wire, &mut room);
+    Vec::from_slice(alloc, &room[..len])
 }
 
 /// The suffixes that a later name may point to, in order of offset, each once.
 ///
 /// The first ones stand inside the table and are looked up one by one, so that a message with few names takes no memory
-/// for them and pays for no index.
+/// for them. Most others are found by a cell for a number of their labels; those that found no cell free, by an ordered
+/// index, so that a look-up costs little whatever the labels are.
 #[derive(Drop)]
 pub struct SuffixTable {
     first: FirstSuffixes,
     others: Vec<Suffix>,
-    /// The offset of each of the others, by its key.
+    /// One more than the place of one of the others, or than a place where one stood, and 0 in a free cell.
+    cells: Vec<u16>,
+    /// The offset of each of the others that no cell was free for, by its key.
     index: BTreeMap<Vec<u8>, u16>,
-    /// 1 at the mark of each of the others, so that most labels that aren't stored are never looked up.
-    marks: Vec<u8>,
 }
 
 impl Model for SuffixTable {
     ghost use Rattle.std.specs.Prelude.{◌++◌, List};
     ghost use Rattle.base.specs.writing.State.{Stored};
-    ghost use Rattle.base.specs.writing.Suffixes.{offset_in, AreMarked, IsTable};
+    ghost use Rattle.base.specs.writing.Suffixes.{offset_in, IsTable};
 
     ghost Value = { List Stored };
 
     ghost view = { λ t. t.first ++ t.others.items };
 
-    ghost invariant = { λ t. IsTable (offset_in t.index) t.first t.others.items
-        × AreMarked t.marks.items t.others.items };
+    ghost invariant = { λ t.
+        IsTable (offset_in t.index) t.cells.items t.first t.others.items };
 }
 
 impl HasSuffixes for SuffixTable {
@@ -133,8 +162,8 @@ impl SuffixTable {
         SuffixTable {
             first: FirstSuffixes::new(),
             others: Vec::new(alloc),
+            cells: Vec::new(alloc),
             index: BTreeMap::new(alloc),
-            marks: Vec::new(alloc),
         }
     }
 
@@ -162,10 +191,7 @@ impl SuffixTable {
         if self.others.is_empty() {
             return None;
         }
-        if is_marked(&self.marks, wire) {
-            return find_other(&self.index, wire);
-        }
-        None
+        find_other(&self.cells, &self.others, &self.index, wire)
     }
 
     /// Stores a suffix of these labels, each with its length before it, that isn't stored yet, after all others.
@@ -190,8 +216,7 @@ impl SuffixTable {
         self.store_other(wire, at)
     }
 
-    /// The same with a suffix that has no room inside. It stands by itself, since that room for its key costs what calls
-    /// it, and few messages have so many suffixes.
+    /// The same with a suffix that has no room inside. It stands by itself, since few messages have so many suffixes.
     ///
     /// # Errors
     ///
@@ -208,13 +233,16 @@ impl SuffixTable {
     {
         let alloc = *self.others.allocator();
         let suffix = Suffix::new(alloc, wire, at)?;
-        let mut room = [0; KEY];
-        let len = key_into(wire, &mut room);
-        let key = Vec::from_slice(alloc, &room[..len])?;
-        make_marks(&mut self.marks)?;
+        make_cells(&mut self.cells)?;
         self.others.reserve(1)?;
+        let start = cell_of(wire);
+        if let Some(way) = free_cell(&self.cells[start..start + WAYS]) {
+            self.cells[start + way] = (self.others.len() + 1) as u16;
+            self.others.push_reserved(suffix);
+            return Ok(());
+        }
+        let key = key_of(alloc, wire)?;
         self.index.insert(key, at)?;
-        self.marks[mark_of(wire)] = 1;
         self.others.push_reserved(suffix);
         Ok(())
     }
@@ -235,9 +263,36 @@ impl SuffixTable {
     }
 }
 
-/// The offset that the index has for a suffix of these labels. It stands by itself, as `store_other` does.
+/// Where the one of these suffixes is spelled that has these labels, found by their cells, or by the index where none of
+/// these is free. It stands by itself, as `store_other` does.
 #[inline(never)]
-fn find_other(index: &BTreeMap<Vec<u8>, u16>, wire: &[u8]) -> Option<u16>
+fn find_other(
+    cells: &[u16],
+    others: &[Suffix],
+    index: &BTreeMap<Vec<u8>, u16>,
+    wire: &[u8],
+) -> Option<u16>
+    requires wire { IsWire wire.now }
+    requires made { CELLS ≤ length cells.now }
+    ensures { result ≡ found_at others.now (offset_in index.now wire.now) (labels_of wire.now)
+        (cells_of cells.now wire.now) }
+{
+    let start = cell_of(wire);
+    for cell in &cells[start..start + WAYS] {
+        let place = usize::from(*cell);
+        if place == 0 {
+            return None;
+        }
+        if place <= others.len() && others[place - 1].as_wire() == wire {
+            return Some(others[place - 1].offset());
+        }
+    }
+    find_indexed(index, wire)
+}
+
+/// The offset that the index has for a suffix of these labels. It stands by itself, since few are looked up there.
+#[inline(never)]
+fn find_indexed(index: &BTreeMap<Vec<u8>, u16>, wire: &[u8]) -> Option<u16>
     requires { length wire.now ≤ MAX_LABELS }
     ensures { result ≡ offset_in index.now wire.now }
 {

@@ -3,7 +3,7 @@
 ghost use Rattle.base.specs.declared.limits.TheConstants.{POINTER_LIMIT};
 ghost use Rattle.std.specs.Int.{w16, to_be_bytes};
 ghost use Rattle.std.specs.Option.{ForSome};
-ghost use Rattle.std.specs.Prelude.{◌≡◌, ◌+◌, ◌^◌, ◌<◌, [], ◌∷◌, Err, length, OnErr};
+ghost use Rattle.std.specs.Prelude.{◌≡◌, ◌+◌, ◌^◌, ◌<◌, [], ◌∷◌, Err, length, OnErr, is_some, if◌then◌else◌};
 ghost use Rattle.base.specs.writing.AppendError.{refusal, told};
 ghost use Rattle.base.specs.writing.Laws.{Keeps};
 ghost use Rattle.base.specs.writing.Wire.{state_of};
@@ -134,6 +134,9 @@ impl<'a> BinEncoder<'a> {
         ensures keeps { Keeps (state_of self.old) (state_of self.new) }
         ensures exact { Exactly (pointer_or (just (0 ∷ [])) offset) (state_of self.old)
             (state_of self.new) (told result) }
+        ensures err { OnErr result (state_of self.new ≡ state_of self.old) }
+        ensures full { (state_of self.old).limit < length (state_of self.old).bytes
+            + (if is_some offset then 2 else 1) → result ≡ Err reasons.NoRoom }
     {
         match offset {
             Some(offset) => self.append_u16(POINTER + offset),

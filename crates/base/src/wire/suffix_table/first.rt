@@ -5,7 +5,7 @@ ghost use Rattle.base.specs.declared.wire.suffix_table.first.TheConstants.{FIRST
 ghost use Rattle.std.specs.Prelude.{◌≡◌, ◌<◌, ◌≤◌, ◌↔◌, ◌++◌, ◌∷◌, [], IfSome, IsTrue, length, take, if◌then◌else◌};
 ghost use Rattle.base.specs.names.Labels.{labels_of, IsWire};
 ghost use Rattle.base.specs.writing.State.{front_number};
-ghost use Rattle.base.specs.writing.Suffixes.{InOrder, IsEntry, bytes_of};
+ghost use Rattle.base.specs.writing.Suffixes.{InOrder, IsEntry, bytes_of, slot_of};
 ghost use Rattle.base.specs.writing.Written.{found_in};
 
 use crate::wire::suffix_table::SPREAD;
@@ -17,11 +17,11 @@ const FIRST: usize = 24;
 /// How many bytes of labels have room.
 const ROOM: usize = 512;
 
-/// How many hints there are: one for each number of the five highest bits of a product.
-const HINTS: usize = 32;
+/// How many hints there are: one for each number of the six highest bits of a product.
+const HINTS: usize = 64;
 
 /// How far those bits stand above the lowest.
-const HINT_SHIFT: u32 = 27;
+const HINT_SHIFT: u32 = 26;
 
 /// A suffix: where its labels begin and end among the bytes, each with its length before it, and where it is spelled.
 #[derive(Clone, Copy)]
@@ -42,24 +42,25 @@ pub(crate) struct FirstSuffixes {
     all: [Entry; FIRST],
     /// The labels of each, one after another. What stands after those in use has no meaning.
     bytes: [u8; ROOM],
-    /// By the number of the first bytes of labels, the place of the suffix that may have them: it is looked at first, and
-    /// compared.
+    /// By the number of the first bytes of labels, one more than the place of the suffix that may have them: it is looked
+    /// at first, and compared. 0 where no suffix has that number, and then none is looked at.
     hints: [u8; HINTS],
 }
 
 impl Model for FirstSuffixes {
-    ghost use Rattle.base.specs.declared.wire.suffix_table.first.TheConstants.{FIRST, ROOM};
+    ghost use Rattle.base.specs.declared.wire.suffix_table.first.TheConstants.{FIRST, HINTS, ROOM};
     ghost use Rattle.std.specs.Prelude.{◌≡◌, ◌≤◌, All, List, length, map, take};
     ghost use Rattle.base.specs.writing.State.{Stored};
-    ghost use Rattle.base.specs.writing.Suffixes.{IsEntry, stored_at};
+    ghost use Rattle.base.specs.writing.Suffixes.{AreHinted, IsEntry, stored_at};
 
     ghost Value = { List Stored };
 
     ghost view = { λ t. map (stored_at (take t.used t.bytes)) (take t.count t.all) };
 
-    ghost invariant = { λ t. (((t.count ≤ FIRST) × (length t.all ≡ FIRST))
+    ghost invariant = { λ t. ((((t.count ≤ FIRST) × (length t.all ≡ FIRST))
         × ((t.used ≤ ROOM) × (length t.bytes ≡ ROOM)))
-        × All (IsEntry (take t.used t.bytes)) (take t.count t.all) };
+        × All (IsEntry (take t.used t.bytes)) (take t.count t.all))
+        × ((length t.hints ≡ HINTS) × AreHinted t.hints (take t.count t.all)) };
 }
 
 impl FirstSuffixes {
@@ -103,8 +104,11 @@ impl FirstSuffixes {
         ensures near { IfSome result (λ offset. offset < POINTER_LIMIT) }
     {
         let hint = usize::from(self.hints[slot_of(front)]);
-        if hint < self.count {
-            let hinted = self.all[hint];
+        if hint == 0 {
+            return None;
+        }
+        if hint <= self.count {
+            let hinted = self.all[hint - 1];
             if hinted.is(&self.bytes[..self.used], wire, front) {
                 return Some(hinted.offset);
             }
@@ -139,9 +143,9 @@ impl FirstSuffixes {
             start: start as u16,
             end: end as u16,
         };
-        self.hints[slot_of(front)] = self.count as u8;
         self.used = end;
         self.count += 1;
+        self.hints[slot_of(front)] = self.count as u8;
         true
     }
 
@@ -171,7 +175,8 @@ impl Entry {
 /// The place among the hints of those of a number.
 #[inline(always)]
 fn slot_of(front: u32) -> usize
-    ensures { result < HINTS }
+    ensures value { result ≡ slot_of front }
+    ensures below { result < HINTS }
 {
     (front.wrapping_mul(SPREAD) >> HINT_SHIFT) as usize
 }

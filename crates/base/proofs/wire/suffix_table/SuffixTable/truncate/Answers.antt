@@ -1,9 +1,8 @@
 use Rattle.std.proofs.Common.{◌≡◌, ◌∙◌, ◌++◌, ◌∷◌, [], ◌≤◌, ◌+◌, ◌-◌, List, length, length-append, take, refl, sym, ap}
 use Rattle.std.proofs.Common.{subst, arith}
 use Rattle.base.specs.writing.State.{Stored}
-use Rattle.base.specs.writing.Suffixes.{index_key, offset_in, AreMarked, IsTable}
-use Rattle.base.proofs.writing.MarkLemmas.{marked_pop}
-use Rattle.base.proofs.writing.SuffixLemmas.{IsTable-pop, IsTable-cut, cut_last}
+use Rattle.base.specs.writing.Suffixes.{index_key, offset_in, IsTable}
+use Rattle.base.proofs.writing.TableLemmas.{IsTable-pop, IsTable-cut, cut_last}
 use Rattle.base.proofs.wire.suffix_table.SuffixTable.truncate.Goals as goal
 
 pub loop-self-preserved-in-Some : goal.loop-self-preserved-in-Some
@@ -18,10 +17,9 @@ loop-self-preserved-in-Some c =
     omega (arith, ap length is, length-append front (u ∷ []), after) in
     record {
       table = IsTable-pop was.index c.remove.new.self u key c.remove.ensures.updates
-          (subst (IsTable (offset_in was.index) was.first) is c.loop-self.invariant.table) refl;
+          (subst (IsTable (offset_in was.index) was.cells.items was.first) is c.loop-self.invariant.table) refl;
       front = sym (cut_last c.args.count was.first front u fits)
           ∙ ap (λ (zs : List Stored). take c.args.count (was.first ++ zs)) (sym is) ∙ c.loop-self.invariant.front;
-      marked = marked_pop was.marks.items front u (subst (AreMarked was.marks.items) is c.loop-self.invariant.marked);
       after = after;
     }
 
@@ -29,4 +27,4 @@ pub invariant_of-self : goal.invariant_of-self
 invariant_of-self c =
     let fits : length c.loop-self.self-inside.others.items ≤ c.args.count - length c.loop-self.self-inside.first =
     omega (arith, c.loop-self.invariant.after) in
-    (IsTable-cut c.args.count c.loop-self.invariant.table fits c.truncate.ensures, c.loop-self.invariant.marked)
+    IsTable-cut c.args.count c.loop-self.invariant.table fits c.truncate.ensures
