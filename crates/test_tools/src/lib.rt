@@ -4,4 +4,5 @@
 pub mod bytes;
 pub mod forms;
 pub mod hashes;
+pub mod names;
 pub mod texts;

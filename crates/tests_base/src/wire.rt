@@ -10,6 +10,7 @@ use base::{
     RecordType, emit_sized,
 };
 use std::alloc::Global;
+use test_tools::names::alike;
 
 /// The name that these bytes spell.
 fn name_of(alloc: Global, bytes: &[u8]) -> Result<Name, DecodeError> {
@@ -39,6 +40,8 @@ enum Step {
     Class(DNSClass),
     /// This number of names of two letters, no two the same.
     Letters(u8),
+    /// This number of names of 47 letters, no two the same, which an encoder can't tell apart at once.
+    Alike(u8),
 }
 
 /// Writes a name.
@@ -75,6 +78,14 @@ fn emit_letters(alloc: Global, count: u8, encoder: &mut BinEncoder<'_>) -> Resul
     Ok(())
 }
 
+/// Writes names that can't be told apart at once.
+fn emit_alike(alloc: Global, count: u8, encoder: &mut BinEncoder<'_>) -> Result<(), ProtoError> {
+    for number in 0..count {
+        emit_name(alloc, Step::Alike(number), &alike(number), encoder)?;
+    }
+    Ok(())
+}
+
 /// Does a step.
 fn take(alloc: Global, step: Step, encoder: &mut BinEncoder<'_>) -> Result<(), ProtoError> {
     match step {
@@ -95,6 +106,7 @@ fn take(alloc: Global, step: Step, encoder: &mut BinEncoder<'_>) -> Result<(), P
         Step::Type(record_type) => record_type.emit(encoder),
         Step::Class(class) => class.emit(encoder),
         Step::Letters(count) => emit_letters(alloc, count, encoder),
+        Step::Alike(count) => emit_alike(alloc, count, encoder),
     }
 }
 

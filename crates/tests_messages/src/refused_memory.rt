@@ -1,10 +1,11 @@
 use crate::messages::message::parts::{SIGNED, message_of};
-use base::{BinEncodable, BinEncoder, Name, ProtoError, RecordType};
+use base::{BinDecodable, BinDecoder, BinEncodable, BinEncoder, Name, ProtoError, RecordType};
 use base_data::{EdnsOption, OPT};
 use op::{LowerQuery, Message, Query};
 use std::alloc::Global;
 use std::test::Fail;
 use test_tools::bytes::decode;
+use test_tools::names::{ALIKE, KINDS, alike};
 
 /// Writes the message after two bytes, under a limit for all of it. Whether these stand, whatever comes of it.
 fn leaves_what_stood(
@@ -143,5 +144,32 @@ fn options_are_put_in(alloc: Global, count: u16) -> Result<bool, ProtoError> {
 #[test]
 fn options_are_put_in_turn(rt: HostRuntime) -> Result<(), Fail> {
     assert!(rt; options_are_put_in(rt.alloc(), 5)?);
+    Ok(())
+}
+
+/// Writes each of the names that an encoder can't tell apart at once.
+fn write_alike(alloc: Global, encoder: &mut BinEncoder<'_>) -> Result<(), ProtoError> {
+    for number in 0..KINDS {
+        let name = Name::read(&mut BinDecoder::new(alloc, &alike(number)))?;
+        let emitted = name.emit(encoder);
+        drop(name);
+        emitted?;
+    }
+    Ok(())
+}
+
+/// How many bytes are written where each of them is written twice.
+fn written_twice(alloc: Global) -> Result<usize, ProtoError> {
+    let mut bytes = Vec::new(alloc);
+    let mut encoder = BinEncoder::new(&mut bytes);
+    write_alike(alloc, &mut encoder)?;
+    write_alike(alloc, &mut encoder)?;
+    Ok(encoder.len())
+}
+
+#[test]
+fn names_alike_are_pointed_at(rt: HostRuntime) -> Result<(), Fail> {
+    let len = written_twice(rt.alloc())?;
+    assert!(rt; len == usize::from(KINDS) * (ALIKE + 2));
     Ok(())
 }

@@ -1,6 +1,7 @@
 -- What the cells of suffixes find.
 use Rattle.base.specs.declared.wire.suffix_table.TheConstants.{WAYS}
-use Rattle.std.proofs.Common.{◌≡◌, ◌≢◌, ℕ, zero, suc, ◌+◌, ◌-◌, ◌*◌, ◌<◌, ◌≤◌, ◌⊎◌, inl, inr, refl, List, [], ◌∷◌, ◌++◌, length}
+use Rattle.std.proofs.Common.{◌≡◌, ◌≢◌, ℕ, zero, suc, ◌+◌, ◌-◌, ◌*◌, ◌<◌, ◌≤◌, ◌⊎◌, inl, inr, refl, List, [], ◌∷◌, ◌++◌}
+use Rattle.std.proofs.Common.{length}
 use Rattle.std.proofs.Common.{get_or, take, drop, ap, sym, ◌∙◌, arith, length-append}
 use Rattle.std.specs.Prelude.{All, Option, Some, None, slice_set}
 use Rattle.std.specs.Option.{option_or}
@@ -20,12 +21,15 @@ use Rattle.base.proofs.writing.SuffixLemmas.{found_first, found_later, found_pla
 
 -- it has the place of a suffix of the labels
 pub cell_here : (ts : List Stored) (o : Option ℕ) (labels : List (List ℕ)) (cells : List ℕ) (k : ℕ) (d : Stored)
-    → k < length ts → (get_or ts k d).labels ≡ labels → found_at ts o labels (suc k ∷ cells) ≡ Some (get_or ts k d).offset
-cell_here ts o labels cells k d inside same = rw (drop_more ts k d inside, found_first (get_or ts k d) [] labels same) refl
+    → k < length ts → (get_or ts k d).labels ≡ labels
+    → found_at ts o labels (suc k ∷ cells) ≡ Some (get_or ts k d).offset
+cell_here ts o labels cells k d inside same =
+    rw (drop_more ts k d inside, found_first (get_or ts k d) [] labels same) refl
 
 -- or of one of other labels
 pub cell_other : (ts : List Stored) (o : Option ℕ) (labels : List (List ℕ)) (cells : List ℕ) (k : ℕ) (d : Stored)
-    → k < length ts → (get_or ts k d).labels ≢ labels → found_at ts o labels (suc k ∷ cells) ≡ found_at ts o labels cells
+    → k < length ts → (get_or ts k d).labels ≢ labels
+    → found_at ts o labels (suc k ∷ cells) ≡ found_at ts o labels cells
 cell_other ts o labels cells k d inside other =
     rw (drop_more ts k d inside, found_later (get_or ts k d) [] labels other) refl
 
@@ -42,7 +46,8 @@ cell_hits ts o labels cells (suc k) d some inside same =
     let same_place : suc k - 1 ≡ k = omega arith in
     rw (same_place) (cell_here ts o labels cells k d (omega (arith, inside)) (rw (same_place) at same))
 
-pub cell_passes : (ts : List Stored) (o : Option ℕ) (labels : List (List ℕ)) (cells : List ℕ) (x : ℕ) (d : Stored) → 0 < x
+pub cell_passes : (ts : List Stored) (o : Option ℕ) (labels : List (List ℕ)) (cells : List ℕ) (x : ℕ) (d : Stored)
+    → 0 < x
     → (x ≤ length ts → (get_or ts (x - 1) d).labels ≢ labels)
     → found_at ts o labels (x ∷ cells) ≡ found_at ts o labels cells
 cell_passes ts o labels cells zero d some other = absurd (omega (arith, some))
@@ -187,7 +192,8 @@ set_elsewhere cells q r k v inside = elim (cases_lt q r) [
         let n = (q - r) * WAYS + k in
         let at : q * WAYS + k ≡ r * WAYS + n = omega arith in
         inr (ap (λ (i : ℕ). take WAYS (drop (r * WAYS) (slice_set cells i v))) at
-        ∙ ap (take WAYS) (drop-set-add (r * WAYS) cells n v) ∙ take-set-le WAYS (drop (r * WAYS) cells) n v (omega arith))
+        ∙ ap (take WAYS) (drop-set-add (r * WAYS) cells n v)
+        ∙ take-set-le WAYS (drop (r * WAYS) cells) n v (omega arith))
     | inr same ↦ inl (omega arith)
   ]
 ]

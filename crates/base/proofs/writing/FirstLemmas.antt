@@ -7,7 +7,8 @@ use Rattle.std.proofs.Common.{inl, inr}
 use Rattle.std.specs.Prelude.{All, None, Some, map, nat_eq, slice_set}
 use Rattle.std.proofs.lemmas.Bool.{cases_Bool, eqb-true, eqb-false}
 use Rattle.std.proofs.lemmas.List.{drop_more, drop-append-le, take-append-le, take_all, take_more_set, map_push}
-use Rattle.std.proofs.lemmas.List.{length-take-le, length-map, get_or-map, get_or-take, get_or-set_same, get_or-set_other}
+use Rattle.std.proofs.lemmas.List.{length-take-le, length-map, get_or-map, get_or-take, get_or-set_same}
+use Rattle.std.proofs.lemmas.List.{get_or-set_other}
 use Rattle.std.proofs.lemmas.List.Elements.{All-tail, All-push}
 use Rattle.std.proofs.lemmas.Slice.{take-put_mid}
 use Rattle.std.proofs.Math.Seq.{drop-append_seam}
@@ -123,20 +124,24 @@ pub unhinted : (hints text : List ℕ) (es : List Entry) (wire : List ℕ) → A
     → found_in (map (stored_at text) es) (labels_of wire) ≡ None
 unhinted hints text es wire entries hinted ok none =
     none_found (map (stored_at text) es) (labels_of wire) (λ k d inside same.
-        let there : k < length es = omega (arith, inside, length-map es (stored_at text)) in
-        let e = get_or es k unused in
-        let at = get_or-map (stored_at text) es k unused d there in
-        let entry = entries k unused there in
-        let bytes : bytes_of text e ≡ wire =
-        sym entry.wire.whole ∙ ap wire_of (sym (ap (λ (t : Stored). t.labels) at) ∙ same) ∙ ok.whole in
-        let number : e.front ≡ front_number wire = entry.front ∙ ap front_number bytes in
-        omega (arith, hinted k unused there, ap (λ (n : ℕ). get_or hints (slot_of n) 0) number ∙ none))
+    let there : k < length es = omega (arith, inside, length-map es (stored_at text)) in
+    let e = get_or es k unused in
+    let at = get_or-map (stored_at text) es k unused d there in
+    let entry = entries k unused there in
+    let bytes : bytes_of text e ≡ wire =
+    sym entry.wire.whole ∙ ap wire_of (sym (ap (λ (t : Stored). t.labels) at) ∙ same) ∙ ok.whole in
+    let number : e.front ≡ front_number wire = entry.front ∙ ap front_number bytes in
+    omega (arith, hinted k unused there, ap (λ (n : ℕ). get_or hints (slot_of n) 0) number ∙ none))
 
 set_stays : (hints : List ℕ) (i k v : ℕ) → i < length hints → 0 < v → 0 < get_or hints k 0
     → 0 < get_or (slice_set hints i v) k 0
 set_stays hints i k v inside some was = elim (cases_Bool (nat_eq k i)) [
-  | inl equal ↦ omega (arith, some, ap (λ (j : ℕ). get_or (slice_set hints i v) j 0) (eqb-true k i equal)
-      ∙ get_or-set_same hints i v 0 inside)
+  | inl equal ↦ omega (
+    arith,
+    some,
+    ap (λ (j : ℕ). get_or (slice_set hints i v) j 0) (eqb-true k i equal)
+        ∙ get_or-set_same hints i v 0 inside,
+  )
   | inr differ ↦ omega (arith, was, get_or-set_other hints i k v 0 (eqb-false k i differ))
 ]
 
@@ -146,5 +151,9 @@ pub hinted_push : (hints : List ℕ) (all : List Entry) (count : ℕ) (e : Entry
 hinted_push hints all count e i v few at inside some was = rw (take_more_set all count e few) (
     All-push (λ (x : Entry). 0 < get_or (slice_set hints i v) (slot_of x.front) 0) (take count all) e
     (λ k d there. set_stays hints i _ v inside some (was k d there))
-    (omega (arith, some, ap (λ (j : ℕ). get_or (slice_set hints i v) j 0) (sym at)
-    ∙ get_or-set_same hints i v 0 inside)))
+    (omega (
+      arith,
+      some,
+      ap (λ (j : ℕ). get_or (slice_set hints i v) j 0) (sym at)
+          ∙ get_or-set_same hints i v 0 inside,
+    )))

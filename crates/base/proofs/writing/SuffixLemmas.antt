@@ -1,31 +1,21 @@
 -- Suffixes in order, and which of them is found.
 use Rattle.base.specs.declared.limits.TheConstants.{POINTER_LIMIT}
-use Rattle.std.proofs.Common.{◌≡◌, ◌≢◌, ℕ, zero, suc, ◌+◌, ◌-◌, ◌<◌, ◌≤◌, ◌⊎◌, inl, inr, refl, List, [], ◌∷◌, ◌++◌, length, get_or}
-use Rattle.std.proofs.Common.{take, drop, ap, sym, ◌∙◌, subst, arith, length-append}
-use Rattle.std.specs.Prelude.{All, Bool, Vec, Option, Some, None, IfSome}
+use Rattle.std.proofs.Common.{◌≡◌, ◌≢◌, ℕ, zero, suc, ◌<◌, ◌≤◌, ◌⊎◌, inl, inr, refl, List, [], ◌∷◌, ◌++◌, length}
+use Rattle.std.proofs.Common.{get_or}
+use Rattle.std.proofs.Common.{ap, sym, ◌∙◌, arith, length-append}
+use Rattle.std.specs.Prelude.{All, Bool, Option, Some, None, IfSome}
 use Rattle.std.specs.Bool.{Decides}
-use Rattle.std.specs.BTreeMap.{BTreeMap, UpdatesBy}
-use Rattle.std.specs.Cmp.Lexicographic.{slice_cmp, bytes_decides}
 use Rattle.std.specs.List.{AllPairs}
-use Rattle.std.specs.Ordering.{nat_cmp}
-use Rattle.std.specs.Str.{bytes_eq}
-use Rattle.std.specs.declared.alloc.Global.{Global}
 use Rattle.std.proofs.lemmas.Bool.{cases_Bool, false≢true}
-use Rattle.std.proofs.lemmas.List.{get_or_append_left, get_or_push, append-nil, append_assoc}
-use Rattle.std.proofs.lemmas.List.{take-append-le, take-append-drop, take_all}
+use Rattle.std.proofs.lemmas.List.{get_or_append_left, get_or_push}
 use Rattle.std.proofs.Math.Seq.{drop-append_seam}
-use Rattle.std.proofs.lemmas.List.Elements.{All-nil, All-cons, All-drop, All-pop, All-push}
-use Rattle.std.proofs.lemmas.List.Quantifiers.{all_pairs_push}
-use Rattle.base.specs.names.Labels.{IsLabelRun, wire_of}
+use Rattle.std.proofs.lemmas.List.Elements.{All-nil, All-cons, All-drop}
 use Rattle.base.specs.names.NameOrder.{same_labels}
 use Rattle.base.specs.names.NameOrderLaws.{labels_decide}
-use Rattle.base.specs.writing.SaysName.{found_as, found_past, found_among, none_found}
+use Rattle.base.specs.writing.SaysName.{found_as, found_past}
 use Rattle.base.specs.writing.State.{Stored}
-use Rattle.base.specs.Keys.{indexed_at}
-use Rattle.base.specs.writing.Suffixes.{index_key, offset_in, InOrder, IsTable}
+use Rattle.base.specs.writing.Suffixes.{InOrder}
 use Rattle.base.specs.writing.Written.{found_in}
-use Rattle.base.proofs.IndexedLemmas.{place_here, place_others}
-use Rattle.base.proofs.names.LabelLemmas.{labels_of-wire_of, labels_of_is}
 
 -- what a test decides is so or not
 pub so_or_not : {P : Type 0} (b : Bool) → Decides b P → P ⊎ (P → ⊥)

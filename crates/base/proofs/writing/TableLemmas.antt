@@ -1,7 +1,8 @@
 -- What storing a suffix in the table and forgetting the last does to it.
 use Rattle.base.specs.declared.limits.TheConstants.{POINTER_LIMIT}
 use Rattle.base.specs.declared.wire.suffix_table.TheConstants.{CELLS, CELL_SHIFT, SPREAD, WAYS}
-use Rattle.std.proofs.Common.{◌≡◌, ◌≢◌, ℕ, suc, ◌+◌, ◌-◌, ◌*◌, ◌/◌, ◌%◌, ◌^◌, ◌<◌, ◌≤◌, inl, inr, refl, List, [], ◌∷◌, ◌++◌, length}
+use Rattle.std.proofs.Common.{◌≡◌, ◌≢◌, ℕ, suc, ◌+◌, ◌-◌, ◌*◌, ◌/◌, ◌%◌, ◌^◌, ◌<◌, ◌≤◌, inl, inr, refl, List, [], ◌∷◌}
+use Rattle.std.proofs.Common.{◌++◌, length}
 use Rattle.std.proofs.Common.{take, drop, ap, sym, ◌∙◌, subst, arith, length-append, length-drop}
 use Rattle.std.specs.Prelude.{All, Vec, Option, Some, None, slice_set}
 use Rattle.std.specs.BTreeMap.{BTreeMap, UpdatesBy}
@@ -21,13 +22,15 @@ use Rattle.base.specs.names.NameOrderLaws.{labels_decide}
 use Rattle.base.specs.writing.SaysName.{found_among, none_found}
 use Rattle.base.specs.writing.State.{Stored}
 use Rattle.base.specs.Keys.{indexed_at}
-use Rattle.base.specs.writing.Suffixes.{cell_of, cells_of, found_at, index_key, key_number, offset_in, taken, InOrder, IsTable}
+use Rattle.base.specs.writing.Suffixes.{cell_of, cells_of, found_at, index_key, key_number, offset_in, taken, InOrder}
+use Rattle.base.specs.writing.Suffixes.{IsTable}
 use Rattle.base.specs.writing.Written.{found_in}
 use Rattle.base.proofs.IndexedLemmas.{place_here, place_others}
 use Rattle.base.proofs.names.LabelLemmas.{labels_of-wire_of, labels_of_is}
 use Rattle.base.proofs.writing.CellLemmas.{found_full, found_last, found_more, found_new, found_others, found_sound}
 use Rattle.base.proofs.writing.CellLemmas.{set_elsewhere, set_here}
-use Rattle.base.proofs.writing.SuffixLemmas.{Before, all_after, alone, found_some, last_unlike, order_after, order_first}
+use Rattle.base.proofs.writing.SuffixLemmas.{Before, all_after, alone, found_some, last_unlike, order_after}
+use Rattle.base.proofs.writing.SuffixLemmas.{order_first}
 use Rattle.base.proofs.writing.SuffixLemmas.{so_or_not}
 
 same_found : (r s : Option ℕ) → ((x : ℕ) → r ≡ Some x → s ≡ Some x) → ((x : ℕ) → s ≡ Some x → r ≡ Some x) → r ≡ s
@@ -131,7 +134,8 @@ module _ {bs : List ℕ} {w : Option ℕ} (m n : BTreeMap (Vec ℕ Global) ℕ) 
     | inr other ↦ only cs o (sym (elsewhere cs other) ∙ is)
   ]
 
-  elsewhere_at : (labels : List (List ℕ)) → u.labels ≢ labels → offset_in n (wire_of labels) ≡ offset_in m (wire_of labels)
+  elsewhere_at : (labels : List (List ℕ)) → u.labels ≢ labels
+      → offset_in n (wire_of labels) ≡ offset_in m (wire_of labels)
   elsewhere_at labels other = elsewhere (wire_of labels) (λ at. other (sym (labels_of_is (wire_of labels) u.labels at)
       ∙ labels_of-wire_of labels))
 
@@ -193,7 +197,8 @@ module _ {bs : List ℕ} {w : Option ℕ} (m n : BTreeMap (Vec ℕ Global) ℕ) 
               ])
               (λ x so. absurd (none-some x (sym none ∙ so))))
           | inr other ↦
-              ap (λ (o : Option ℕ). found_at front o labels (cells_of cells (wire_of labels))) (elsewhere_at labels other)
+              ap (λ (o : Option ℕ). found_at front o labels (cells_of cells (wire_of labels)))
+              (elsewhere_at labels other)
               ∙ sym (found_others front u (offset_in m (wire_of labels)) labels (cells_of cells (wire_of labels)) other)
               ∙ t.finds labels ∙ found_among front (u ∷ []) labels (alone u labels other)
         ];
@@ -209,7 +214,8 @@ module _ {bs : List ℕ} {w : Option ℕ} (m n : BTreeMap (Vec ℕ Global) ℕ) 
       }
 
 -- the cells are made, where there were none
-pub IsTable-made : {find : List ℕ → Option ℕ} {cells : List ℕ} {first others : List Stored} (new : List ℕ) → (CELLS ≤ length cells → new ≡ cells)
+pub IsTable-made : {find : List ℕ → Option ℕ} {cells : List ℕ} {first others : List Stored} (new : List ℕ)
+    → (CELLS ≤ length cells → new ≡ cells)
     → IsTable find cells first others → IsTable find new first others
 IsTable-made {find = find} {first = first} {others = []} new same t = record {
   order = t.order;
@@ -229,7 +235,8 @@ IsTable-made {find = find} {first = first} {others = s ∷ others} new same t =
     subst (λ (xs : List ℕ). IsTable find xs first (s ∷ others)) (sym (same (t.made (omega arith)))) t
 
 -- one of the first suffixes more, where there are no others
-pub IsTable-first : {find : List ℕ → Option ℕ} {cells : List ℕ} {first others xs : List Stored} (u : Stored) → length others ≡ 0
+pub IsTable-first : {find : List ℕ → Option ℕ} {cells : List ℕ} {first others xs : List Stored} (u : Stored)
+    → length others ≡ 0
     → xs ≡ first ++ u ∷ [] → IsTable find cells first others → All (λ t. t.labels ≢ u.labels) (first ++ others)
     → All (λ t. t.offset < u.offset) (first ++ others) → IsTable find cells xs others
 IsTable-first {first = first} {others = []} u none is t absent later = record {

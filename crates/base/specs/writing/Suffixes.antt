@@ -1,6 +1,7 @@
 -- The table of suffixes: a list in order of offset, and what finds its suffixes.
 use Rattle.base.specs.declared.limits.TheConstants.{POINTER_LIMIT}
-use Rattle.std.specs.Prelude.{◌≡◌, ◌≢◌, ℕ, zero, suc, ◌+◌, ◌-◌, ◌*◌, ◌/◌, ◌%◌, ◌^◌, ◌<◌, ◌≤◌, List, [], ◌∷◌, ◌++◌, Option, None}
+use Rattle.std.specs.Prelude.{◌≡◌, ◌≢◌, ℕ, zero, suc, ◌+◌, ◌-◌, ◌*◌, ◌/◌, ◌%◌, ◌^◌, ◌<◌, ◌≤◌, List, [], ◌∷◌, ◌++◌}
+use Rattle.std.specs.Prelude.{Option, None}
 use Rattle.std.specs.Prelude.{Some, Vec, All, length, take, drop, get_or}
 use Rattle.std.specs.BTreeMap.{BTreeMap}
 use Rattle.std.specs.Int.{w32, to_be_bytes}
@@ -72,7 +73,8 @@ taken [] = 0
 taken (zero ∷ cells) = 0
 taken (suc place ∷ cells) = suc (taken cells)
 
--- where a suffix of these labels is spelled: one at the places that cells have, one less than each says, up to the first
+-- where a suffix of these labels is spelled: one at the places that cells have, one less than each says, up to the
+-- first
 -- free cell; where no cell is free, else as is said
 abbrev pub found_at : List Stored → Option ℕ → List (List ℕ) → List ℕ → Option ℕ
 found_at ts otherwise labels [] = otherwise
@@ -84,7 +86,8 @@ found_at ts otherwise labels (suc place ∷ cells) =
 abbrev pub offset_in : BTreeMap (Vec ℕ Global) ℕ → List ℕ → Option ℕ
 offset_in index bytes = indexed_at index (index_key bytes)
 
--- The first suffixes stand in a list alone, the others in a second one; all stand in order of offset, each once. Each of
+-- The first suffixes stand in a list alone, the others in a second one; all stand in order of offset, each once. Each
+-- of
 -- the others is found by its cells, or by the index where none of them was free, and nothing else is.
 pub record IsTable (find : List ℕ → Option ℕ) (cells : List ℕ) (first others : List Stored) : Type 0 where
   pub order : InOrder (first ++ others)

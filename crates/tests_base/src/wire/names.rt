@@ -1,6 +1,6 @@
 //! Names that are written: what is pointed at, and what isn't.
 
-use super::Step::{self, Bytes, Letters, Limit, Name, Plain, SizedName, SizedValue, Zeros};
+use super::Step::{self, Alike, Bytes, Letters, Limit, Name, Plain, SizedName, SizedValue, Zeros};
 use super::{Row, are_taken};
 use base::BinEncoder;
 
@@ -171,6 +171,12 @@ pub(super) const MORE_ROWS: &[Row] = &[
         ],
         160,
         b"\x02BN\0\x02bN\0\xC0\xA0\xC0\xA4",
+    ),
+    // each of many whose labels have one number is found
+    (
+        &[(Letters(24), 0), (Alike(12), 0), (Alike(12), 0)],
+        684,
+        b"\xC0\x60\xC0\x91\xC0\xC2\xC0\xF3\xC1\x24\xC1\x55\xC1\x86\xC1\xB7\xC1\xE8\xC2\x19\xC2\x4A\xC2\x7B",
     ),
 ];
 

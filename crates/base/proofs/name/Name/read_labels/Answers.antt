@@ -94,9 +94,11 @@ returns-in_err-kept-clause-read c =
     let all : c.in_ok-piece.piece.len ≡ 0 + c.in_ok-piece.piece.len = omega arith in
     let nowhere = reads_nowhere old.bytes old.index (omega (arith, at.inside, at.value)) c.rest-own.ensures
     c.in_ok-piece.ensures.piece c.in-Some.is (λ below. subst (AreTooLong old.bytes c.in-Some.target) all
-    (subst (λ (bs : List ℕ). AreTooLong bs c.in-Some.target c.in_ok-piece.piece.len) (looks_bytes c.look.invariant.looks)
+    (subst (λ (bs : List ℕ). AreTooLong bs c.in-Some.target c.in_ok-piece.piece.len)
+    (looks_bytes c.look.invariant.looks)
     (k.refused (omega (arith, below, at.value))))) in
-    rw (p.1, p.2) (fails_is e _ (name_refused old.bytes old.index e (nowhere ∙ ap (λ fault. Err (fault_of fault)) (sym k.err))))
+    rw (p.1, p.2) (fails_is e _ (name_refused old.bytes old.index e
+    (nowhere ∙ ap (λ fault. Err (fault_of fault)) (sym k.err))))
 
 pub returns-in_err-kept-clause-tracks : goal.returns-in_err-kept-clause-tracks
 returns-in_err-kept-clause-tracks c =
@@ -142,7 +144,8 @@ returns-in-Some-2 c =
     let at = c.index-start.ensures in
     let k = c.in_ok-kept.ensures in
     let inside : old.index ≤ length old.bytes = omega (arith, at.inside, at.value) in
-    let found = looks_found old inside c.rest-own.ensures c.in_ok-piece.ensures.piece c.in-Some.is c.look.invariant.looks
+    let found = looks_found old inside c.rest-own.ensures c.in_ok-piece.ensures.piece c.in-Some.is
+    c.look.invariant.looks
     (sym k.is ∙ ap is_some c.in-Some-2.is) (rw c.in-Some-2.is at k.spelled) (rw c.in-Some-2.is at k.short) k.closed in
     let read = reads_next old.bytes old.index inside c.rest-own.ensures c.in_ok-piece.ensures.piece c.in-Some.is
     (omega (arith, k.below, at.value)) found.kept (omega (arith, found.short)) in

@@ -1,5 +1,6 @@
 use Rattle.std.specs.Prelude.{Some}
-use Rattle.std.proofs.Common.{rules, ◌≡◌, ◌≢◌, ◌<◌, ◌≤◌, ◌∙◌, ◌+◌, ◌-◌, ◌∷◌, [], ℕ, List, get_or, length, take, drop, refl, sym, ap, arith}
+use Rattle.std.proofs.Common.{◌≡◌, ◌≢◌, ◌<◌, ◌≤◌, ◌∙◌, ◌+◌, ◌-◌, ◌∷◌, ℕ, List, get_or, length, take, drop, refl, sym}
+use Rattle.std.proofs.Common.{ap, arith}
 use Rattle.std.specs.Cmp.Lexicographic.{bytes_decides}
 use Rattle.std.proofs.lemmas.Bool.{false≢true}
 use Rattle.std.proofs.lemmas.List.{drop_all, drop_more, get_or_default}
@@ -8,7 +9,8 @@ use Rattle.base.specs.writing.State.{Stored}
 use Rattle.base.specs.writing.Suffixes.{cells_of, found_at, offset_in}
 use Rattle.base.proofs.names.LabelLemmas.{labels_of_is}
 use Rattle.base.proofs.writing.CellLemmas.{cell_hits, cell_passes, nothing, the_cells}
-use Rattle.base.proofs.wire.suffix_table.find_other.Goals.{else-place-others-via-then-place-others+else-eq, else-place-others-via-else-place-others}
+use Rattle.base.proofs.wire.suffix_table.find_other.Goals.{else-place-others-via-then-place-others+else-eq}
+use Rattle.base.proofs.wire.suffix_table.find_other.Goals.{else-place-others-via-else-place-others}
 use Rattle.base.proofs.wire.suffix_table.find_other.Goals as goal
 
 pub loop-cell-init : goal.loop-cell-init
@@ -61,13 +63,13 @@ loop-cell-preserved c =
     let same = the_cells c.args.cells.now wire start c.cell_of-start.ensures.value in
     let find = found_at others (offset_in c.args.index.now wire) (labels_of wire) in
     let goes : (d : Stored) → (x ≤ length others → (get_or others (x - 1) d).labels ≢ labels_of wire)
-        → find (drop i (cells_of c.args.cells.now wire)) ≡ find (drop (i + 1) (cells_of c.args.cells.now wire)) =
+    → find (drop i (cells_of c.args.cells.now wire)) ≡ find (drop (i + 1) (cells_of c.args.cells.now wire)) =
     λ d other. ap (λ (cs : List ℕ). find (drop i cs)) (sym same)
-        ∙ ap find (drop_more cells i 0 c.loop-cell-test.true)
-        ∙ ap (λ (y : ℕ). find (y ∷ drop (i + 1) cells)) (sym c.from-place.ensures)
-        ∙ cell_passes others (offset_in c.args.index.now wire) (labels_of wire) (drop (i + 1) cells) x d
-        (omega (arith, c.if-place-eq0.false)) other
-        ∙ ap (λ (cs : List ℕ). find (drop (i + 1) cs)) same in
+    ∙ ap find (drop_more cells i 0 c.loop-cell-test.true)
+    ∙ ap (λ (y : ℕ). find (y ∷ drop (i + 1) cells)) (sym c.from-place.ensures)
+    ∙ cell_passes others (offset_in c.args.index.now wire) (labels_of wire) (drop (i + 1) cells) x d
+    (omega (arith, c.if-place-eq0.false)) other
+    ∙ ap (λ (cs : List ℕ). find (drop (i + 1) cs)) same in
     c.loop-cell.invariant ∙ elim c.else-place-others.branch [
       | else-place-others-via-then-place-others+else-eq w ↦
           let u = w.index-others-place.result in

@@ -1,4 +1,4 @@
-use Rattle.std.proofs.Common.{rules, refl, ◌∙◌, ◌*◌, ◌+◌, ◌-◌, ◌%◌, ◌≡◌, ℕ, ap, sym, arith, length, length-drop, take, drop}
+use Rattle.std.proofs.Common.{refl, ◌∙◌, ◌*◌, ◌+◌, ◌-◌, ◌%◌, ◌≡◌, ℕ, ap, sym, arith, length, length-drop, drop}
 use Rattle.std.proofs.lemmas.List.{take_all}
 use Rattle.base.specs.writing.State.{front_number}
 use Rattle.base.specs.writing.Suffixes.{numbered}
@@ -11,8 +11,12 @@ loop-rest-init c = refl
 pub loop-rest-smaller : goal.loop-rest-smaller
 loop-rest-smaller c =
     let rest = c.loop-rest.rest.now in
-    omega (arith, c.loop-rest-test.true, length-drop 8 rest,
-    ap length (take_all (length rest - 8) (drop 8 rest) (omega (arith, length-drop 8 rest))))
+    omega (
+      arith,
+      c.loop-rest-test.true,
+      length-drop 8 rest,
+      ap length (take_all (length rest - 8) (drop 8 rest) (omega (arith, length-drop 8 rest))),
+    )
 
 pub loop-rest-preserved : goal.loop-rest-preserved
 loop-rest-preserved c =

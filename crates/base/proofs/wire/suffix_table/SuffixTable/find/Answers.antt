@@ -35,11 +35,11 @@ found_other c =
     let wire = c.args.wire.now in
     c.find_other.ensures
     ∙ ap (λ (ts : List Stored). found_at ts (offset_in inside.index wire) (labels_of wire)
-        (cells_of c.deref.result.now wire)) c.deref-2.ensures.value
+    (cells_of c.deref.result.now wire)) c.deref-2.ensures.value
     ∙ ap (λ (cells : List ℕ). found_at inside.others.items (offset_in inside.index wire) (labels_of wire)
-        (cells_of cells wire)) c.deref.ensures.value
+    (cells_of cells wire)) c.deref.ensures.value
     ∙ ap (λ (bytes : List ℕ). found_at inside.others.items (offset_in inside.index bytes) (labels_of wire)
-        (cells_of inside.cells.items bytes)) (sym c.requires.whole)
+    (cells_of inside.cells.items bytes)) (sym c.requires.whole)
     ∙ c.self.invariant.finds (labels_of wire)
 
 pub returns-clause-near : goal.returns-clause-near

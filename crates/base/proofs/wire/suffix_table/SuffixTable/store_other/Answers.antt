@@ -1,4 +1,5 @@
-use Rattle.std.proofs.Common.{rules, arith, ◌≡◌, ◌≤◌, ◌∙◌, ◌+◌, ◌-◌, ◌++◌, ◌∷◌, [], ℕ, suc, List, sym, ap, take, drop, length, refl}
+use Rattle.std.proofs.Common.{rules, arith, ◌≡◌, ◌≤◌, ◌∙◌, ◌+◌, ◌-◌, ◌++◌, ◌∷◌, [], ℕ, suc, List, sym, ap, take, drop}
+use Rattle.std.proofs.Common.{length, refl}
 use Rattle.base.specs.names.Labels.{labels_of, wire_of}
 use Rattle.base.specs.writing.State.{Stored}
 use Rattle.base.specs.writing.Suffixes.{cell_of, cells_of, index_key, taken}
@@ -19,7 +20,12 @@ pub overflow_cast-len : goal.overflow_cast-len
 overflow_cast-len c =
     let inside = c.self.inside in
     let order = order_after inside.first inside.others.items c.self.invariant.order in
-    omega (arith, few inside.others.items order c.self.invariant.near, c.len.ensures, ap length c.in_ok-reserve.ensures.items)
+    omega (
+      arith,
+      few inside.others.items order c.self.invariant.near,
+      c.len.ensures,
+      ap length c.in_ok-reserve.ensures.items,
+    )
 
 pub invariant_of-self-in_err-key : goal.invariant_of-self-in_err-key
 invariant_of-self-in_err-key c = rw c.in_ok-reserve.ensures.items
@@ -46,11 +52,17 @@ invariant_of-self-in-Some c =
     let number : c.len.result + 1 ≡ suc (length others) =
     omega (arith, c.len.ensures, ap length c.in_ok-reserve.ensures.items) in
     rw (grown, number) (
-      IsTable-cell t (IsTable-made cells c.make_cells.ensures.same c.self.invariant) c.requires.near
-      (rw c.self.view_is c.requires.absent) (rw c.self.view_is c.requires.later) (start + c.in-Some.way)
-      (omega (arith, at, c.in-Some.ensures.0, ap taken same))
-      (omega (arith, c.in-Some.ensures.0, c.in-Some.ensures.1, ap taken same, ap length same,
-      cells_len cells (wire_of t.labels) fits)) fits made
+    IsTable-cell t (IsTable-made cells c.make_cells.ensures.same c.self.invariant) c.requires.near
+    (rw c.self.view_is c.requires.absent) (rw c.self.view_is c.requires.later) (start + c.in-Some.way)
+    (omega (arith, at, c.in-Some.ensures.0, ap taken same))
+    (omega (
+      arith,
+      c.in-Some.ensures.0,
+      c.in-Some.ensures.1,
+      ap taken same,
+      ap length same,
+      cells_len cells (wire_of t.labels) fits,
+    )) fits made
     )
 
 pub invariant_of-self-2 : goal.invariant_of-self-2
@@ -67,9 +79,9 @@ invariant_of-self-2 c =
     let fits : cell_of (wire_of t.labels) + 8 ≤ length cells = omega (arith, at, made, c.cell_of-start.ensures.below) in
     let grown : c.push_reserved-2.new.self.items ≡ c.self.inside.others.items ++ t ∷ [] = search rules in
     rw grown (
-      IsTable-push c.self.inside.index c.insert.new.self t (c.in_ok-key.ensures ∙ ap index_key whole)
-      c.in_ok-insert.ensures.updates (IsTable-made cells c.make_cells.ensures.same c.self.invariant) refl
-      c.requires.near (rw c.self.view_is c.requires.absent) (rw c.self.view_is c.requires.later)
-      (omega (arith, c.in_default.ensures, ap taken same, ap length same, cells_len cells (wire_of t.labels) fits))
-      fits made
+    IsTable-push c.self.inside.index c.insert.new.self t (c.in_ok-key.ensures ∙ ap index_key whole)
+    c.in_ok-insert.ensures.updates (IsTable-made cells c.make_cells.ensures.same c.self.invariant) refl
+    c.requires.near (rw c.self.view_is c.requires.absent) (rw c.self.view_is c.requires.later)
+    (omega (arith, c.in_default.ensures, ap taken same, ap length same, cells_len cells (wire_of t.labels) fits))
+    fits made
     )

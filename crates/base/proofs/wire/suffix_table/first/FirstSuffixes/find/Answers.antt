@@ -23,7 +23,8 @@ returns-then-is-2-clause-value c =
     let text = take inside.used inside.bytes in
     let es = take inside.count inside.all in
     sym (c.loop-entry.invariant ∙ found_entry text es c.loop-entry.entry-index unused _ (omega arith)
-    ∙ found_first (stored_at text (get_or es c.loop-entry.entry-index unused)) _ _ (c.is-in-loop-entry.ensures.0 c.if-is-2.true))
+    ∙ found_first (stored_at text (get_or es c.loop-entry.entry-index unused)) _ _
+    (c.is-in-loop-entry.ensures.0 c.if-is-2.true))
 
 pub returns-then-is-clause-value : goal.returns-then-is-clause-value
 returns-then-is-clause-value c =
@@ -31,7 +32,8 @@ returns-then-is-clause-value c =
     let text = take inside.used inside.bytes in
     sym (ap (λ (ts : List Stored). found_in ts (labels_of c.args.wire.now)) (sym c.self.view_is)
     ∙ found_hinted text inside.all inside.count (c.from-hint.result - 1) unused _ (rw c.self.view_is c.requires.order)
-    (omega (arith, c.self.invariant.0.0.0)) (omega (arith, c.if-hint-eq0.false, c.if-hint-self.true)) (c.is.ensures.0 c.if-is.true))
+    (omega (arith, c.self.invariant.0.0.0)) (omega (arith, c.if-hint-eq0.false, c.if-hint-self.true))
+    (c.is.ensures.0 c.if-is.true))
 
 pub returns-then-hint-eq0-clause-value : goal.returns-then-hint-eq0-clause-value
 returns-then-hint-eq0-clause-value c =
