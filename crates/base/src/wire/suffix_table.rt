@@ -40,7 +40,7 @@ const CELL_SHIFT: u32 = 21;
 const SPREAD: u32 = 0x9E37_79B1;
 
 /// What a number is multiplied with before that of the next bytes is added, so that it tells in which order they stand.
-const OF_THE_NEXT: u32 = 31;
+const OF_THE_NEXT: u32 = 33;
 
 /// How many bytes a number is made of at once.
 const STEP: usize = 8;

@@ -21,7 +21,7 @@ loop-rest-smaller c =
 pub loop-rest-preserved : goal.loop-rest-preserved
 loop-rest-preserved c =
     let rest = c.loop-rest.rest.now in
-    let n = c.loop-rest.number * 31 % 4294967296 in
+    let n = c.loop-rest.number * 33 % 4294967296 in
     rw (take_all (length rest - 8) (drop 8 rest) (omega (arith, length-drop 8 rest)))
     (ap (λ (k : ℕ). numbered ((n + k) % 4294967296) (drop 8 rest)) c.front_number.ensures
     ∙ sym (numbered_more c.loop-rest.number rest c.loop-rest-test.true) ∙ c.loop-rest.invariant)
