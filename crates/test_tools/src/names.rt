@@ -2,6 +2,7 @@
 
 /// How many bytes each of them has, and how many there are.
 pub const ALIKE: usize = 49;
+
 pub const KINDS: u8 = 32;
 
 /// How many places there are where one of two halves of four bytes differs from the other.
