@@ -1,8 +1,9 @@
 //! Names that an encoder can't tell apart at once.
 
-/// How many bytes each of them has, and how many there are.
+/// How many bytes each of them has.
 pub const ALIKE: usize = 49;
 
+/// How many there are.
 pub const KINDS: u8 = 32;
 
 /// How many places there are where one of two halves of four bytes differs from the other.
