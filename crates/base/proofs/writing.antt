@@ -1,6 +1,7 @@
 -- What is written, where it stands, and which suffixes are stored.
 pub mod CellLemmas
 pub mod CompressionLemmas
+pub mod EightLemmas
 pub mod FirstLemmas
 pub mod FittingLemmas
 pub mod ItemLemmas

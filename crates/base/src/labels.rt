@@ -4,7 +4,7 @@ ghost use Rattle.base.specs.declared.limits.TheConstants.{INLINE_LABELS};
 ghost use Rattle.std.specs.Prelude.{◌≡◌, ◌≤◌, ◌++◌, [], length, take, is_ok, IfOk, IsTrue, OnErr, OnOk};
 ghost use Rattle.base.specs.names.StoredLabels.{lower_labels};
 
-mod inline;
+pub(crate) mod inline;
 
 use crate::labels::inline::InlineLabels;
 use crate::limits::INLINE_LABELS;

@@ -144,7 +144,7 @@ fn copy_front(room: &mut [u8; INLINE_LABELS], slice: &[u8], used: usize)
 
 /// Copies a slice into a place of its length.
 #[inline(always)]
-fn copy_few(place: &mut [u8], slice: &[u8])
+pub(crate) fn copy_few(place: &mut [u8], slice: &[u8])
     requires few { length slice.now ≤ INLINE_LABELS }
     requires fits { length place.old ≡ length slice.now }
     ensures { place.new ≡ slice.now }

@@ -1,6 +1,7 @@
 //! The first suffixes, inside the table.
 
 ghost use Rattle.base.specs.declared.limits.TheConstants.{POINTER_LIMIT};
+ghost use Rattle.base.specs.declared.wire.suffix_table.TheConstants.{STEP};
 ghost use Rattle.base.specs.declared.wire.suffix_table.first.TheConstants.{FIRST, HINTS};
 ghost use Rattle.std.specs.Prelude.{◌≡◌, ◌<◌, ◌≤◌, ◌↔◌, ◌++◌, ◌∷◌, [], IfSome, IsTrue, length, take, if◌then◌else◌};
 ghost use Rattle.base.specs.names.Labels.{labels_of, IsWire};
@@ -8,7 +9,9 @@ ghost use Rattle.base.specs.writing.State.{front_number};
 ghost use Rattle.base.specs.writing.Suffixes.{InOrder, IsEntry, bytes_of, slot_of};
 ghost use Rattle.base.specs.writing.Written.{found_in};
 
-use crate::wire::suffix_table::SPREAD;
+use crate::labels::inline::copy_few;
+use crate::limits::INLINE_LABELS;
+use crate::wire::suffix_table::{SPREAD, STEP};
 use std::marker::Model;
 
 /// How many suffixes have room.
@@ -136,7 +139,7 @@ impl FirstSuffixes {
             return false;
         }
         let end = start + wire.len();
-        self.bytes[start..end].copy_from_slice(wire);
+        copy_labels(&mut self.bytes[start..end], wire);
         self.all[self.count] = Entry {
             front,
             offset,
@@ -168,7 +171,58 @@ impl Entry {
         requires front { front ≡ front_number wire.now }
         ensures { IsTrue result ↔ (labels_of (bytes_of bytes.now self.now) ≡ labels_of wire.now) }
     {
-        self.front == front && &bytes[usize::from(self.start)..usize::from(self.end)] == wire
+        let labels = &bytes[usize::from(self.start)..usize::from(self.end)];
+        self.front == front && are_same(labels, wire)
+    }
+}
+
+/// Copies labels into a place of their length. Most are so short that a call takes longer.
+#[inline(always)]
+fn copy_labels(place: &mut [u8], labels: &[u8])
+    requires { length place.old ≡ length labels.now }
+    ensures { place.new ≡ labels.now }
+{
+    if labels.len() <= INLINE_LABELS {
+        copy_few(place, labels);
+    } else {
+        place.copy_from_slice(labels);
+    }
+}
+
+/// Whether bytes are the same. They are compared by eights, the last of which may overlap the one before, since most
+/// labels are so short that a call takes longer.
+#[inline(always)]
+fn are_same(one: &[u8], other: &[u8]) -> bool
+    ensures { IsTrue result ↔ (one.now ≡ other.now) }
+{
+    let len = one.len();
+    if len != other.len() {
+        return false;
+    }
+    if len < STEP {
+        return one == other;
+    }
+    let last = len - STEP;
+    let mut at = 0;
+    while at < last {
+        if !begin_alike(&one[at..], &other[at..]) {
+            return false;
+        }
+        at += STEP;
+    }
+    begin_alike(&one[last..], &other[last..])
+}
+
+/// Whether the first eight bytes are the same.
+#[inline(always)]
+fn begin_alike(one: &[u8], other: &[u8]) -> bool
+    requires one { STEP ≤ length one.now }
+    requires other { STEP ≤ length other.now }
+    ensures { IsTrue result ↔ (take STEP one.now ≡ take STEP other.now) }
+{
+    match (one.first_chunk::<STEP>(), other.first_chunk::<STEP>()) {
+        (Some(one), Some(other)) => u64::from_le_bytes(*one) == u64::from_le_bytes(*other),
+        _ => false,
     }
 }
 

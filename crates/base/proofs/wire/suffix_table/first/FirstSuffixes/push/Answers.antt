@@ -16,8 +16,8 @@ invariant_of-self c =
           (omega (arith, c.if-wire-start.false, fit.1.0), search rules),
         ),
         pushed_entries old.count old.used c.args.front c.args.offset old.all old.bytes c.args.wire.now
-            c.copy_from_slice.new.self few (omega (arith, c.if-wire-start.false, fit.1.0, fit.1.1))
-            c.copy_from_slice.ensures.after c.requires.wire c.requires.front c.requires.near c.self.invariant.0.1,
+            c.copy_labels.new.place few (omega (arith, c.if-wire-start.false, fit.1.0, fit.1.1))
+            c.copy_labels.ensures c.requires.wire c.requires.front c.requires.near c.self.invariant.0.1,
       ),
       (
         length-set old.hints c.slot_of.result _ ∙ c.self.invariant.1.0,
@@ -30,8 +30,8 @@ pub returns : goal.returns
 returns c =
     let old = c.self.inside in
     let fit = c.self.invariant.0.0 in
-    pushed old.count old.used c.args.front c.args.offset old.all old.bytes c.args.wire.now c.copy_from_slice.new.self
+    pushed old.count old.used c.args.front c.args.offset old.all old.bytes c.args.wire.now c.copy_labels.new.place
     (omega (arith, c.if-self-ge-FIRST.false, fit.0.1)) (omega (arith, c.if-wire-start.false, fit.1.0, fit.1.1))
-    c.copy_from_slice.ensures.after c.requires.wire c.requires.front c.requires.near c.self.invariant.0.1
+    c.copy_labels.ensures c.requires.wire c.requires.front c.requires.near c.self.invariant.0.1
     ∙ ap (λ (ts : List Stored). ts ++ record { labels = labels_of c.args.wire.now; offset = c.args.offset } ∷ [])
     c.self.view_is
