@@ -5,7 +5,7 @@ use Rattle.std.specs.declared.alloc.Global.{Global}
 use Rattle.capi.proofs.HoldingLemmas.{sharing_made, sharing_refused}
 use Rattle.capi.specs.Holding.{Shares, zone_held, zone_in}
 use Rattle.capi.specs.ZoneHandle.{IsOpenAt}
-use Rattle.capi.specs.declared.refusal.Refusal.{Refusal}
+use Rattle.tasks.specs.declared.refusal.Refusal.{Refusal}
 use Rattle.capi.specs.declared.zone_handle.held.HeldZone.{HeldZone}
 use Rattle.capi.specs.declared.zone_handle.holding.Holding.TheVariants as holdings
 use Rattle.capi.proofs.zone_handle.fuzsbanel_zone_share.Goals as goal
