@@ -4,11 +4,11 @@ use Rattle.std.proofs.lemmas.List.{take_at}
 use Rattle.std.specs.Prelude.{Bool, IfOk, Vec, ℤ}
 use Rattle.std.specs.declared.alloc.Global.{Global}
 use Rattle.tasks.specs.Asked.{Asked, Makes, MakesBy, bytes_made}
-use Rattle.capi.specs.Answer.{IsAnswered, IsAnsweredBy, IsLeft, IsTurnedAway}
 use Rattle.tasks.specs.Update.{IsSent, IsUpdate, update_asked}
-use Rattle.capi.specs.Update.{IsUpdateAnswered}
 use Rattle.tasks.specs.declared.refusal.Refusal.{Refusal}
 use Rattle.tasks.specs.declared.update.built.Change.{Change}
+use Rattle.capi.specs.Answer.{IsAnswered, IsAnsweredBy, IsLeft, IsTurnedAway}
+use Rattle.capi.specs.Update.{IsUpdateAnswered}
 
 -- what holds of the bytes that were made holds of those that were put into a buffer with room for them
 pub put_holds : (P : List ℕ → Type 0) (made : Result (Vec ℕ Global) Refusal) (old new : List ℕ) (needed : ℕ)

@@ -3,9 +3,9 @@ use Rattle.std.proofs.Common.{◌≡◌, ℕ, List, length, refl, Option, Some, 
 use Rattle.std.specs.Prelude.{neg_ℤ, pos, ℤ}
 use Rattle.std.specs.String.{string_bytes}
 use Rattle.tasks.specs.Asked.{Asked}
-use Rattle.capi.specs.ZoneCheck.{IsChecked, fronted}
 use Rattle.tasks.specs.ZoneCheck.{ToldFault, told_value}
 use Rattle.tasks.specs.declared.zone_check.Told.{Told}
+use Rattle.capi.specs.ZoneCheck.{IsChecked, fronted}
 
 -- what the caller is left with, where this is told
 pub is_told : (told : Told) (asked : Asked (Option ToldFault)) (old_name new_name old_words new_words : List ℕ)

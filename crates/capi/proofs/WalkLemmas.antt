@@ -6,9 +6,9 @@ use borrow.Rule.Slice.PartMut.{post_of, put_mid}
 use Rattle.std.proofs.Math.Seq.{drop-cons, take-length, take-suc}
 use Rattle.std.proofs.lemmas.List.{append-nil, drop_at, drop-drop, drop_all, length-take-le, set_at, take_at}
 use Rattle.std.proofs.lemmas.List.{take-append-drop}
+use Rattle.tasks.specs.declared.walk.whole.Stop.{Stop}
 use Rattle.capi.specs.WalkWhole.{item_at, items_of, names_of, octets_of}
 use Rattle.capi.specs.declared.walk.whole.Item.{Item}
-use Rattle.tasks.specs.declared.walk.whole.Stop.{Stop}
 
 names_of-append : (xs ys : List Stop) → names_of (xs ++ ys) ≡ names_of xs ++ names_of ys
 unfolding names_of

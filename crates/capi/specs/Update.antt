@@ -1,8 +1,8 @@
 -- What a caller is left with of an update.
 use Rattle.std.specs.Prelude.{ℕ, ℤ, ◌<◌, ◌≤◌, Bool, take, List, length}
-use Rattle.capi.specs.Answer.{IsAnsweredBy}
 use Rattle.tasks.specs.Update.{IsSent, IsUpdate, update_asked}
 use Rattle.tasks.specs.declared.update.built.Change.{Change}
+use Rattle.capi.specs.Answer.{IsAnsweredBy}
 
 -- What comes of the message, and bytes that the buffer has room for are all of it, and mean this.
 pub record IsUpdateAnswered (id : ℕ) (use_edns : Bool) (origin : List ℕ) (change : Change)

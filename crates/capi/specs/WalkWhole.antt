@@ -2,11 +2,11 @@
 use Rattle.std.specs.Prelude.{◌≡◌, ◌⊎◌, ◌+◌, ◌++◌, ◌∷◌, ◌<◌, ◌≤◌, ℕ, ℤ, List, [], drop, length, neg_ℤ, pos, Ok, Err}
 use Rattle.base.specs.names.Labels.{NameValue, wire_of}
 use Rattle.tasks.specs.Asked.{Asked}
-use Rattle.capi.specs.declared.walk.whole.Item.{Item}
-use Rattle.capi.specs.declared.walk.whole.RoomNeeded.{RoomNeeded}
 use Rattle.tasks.specs.declared.walk.whole.Section.{Section}
 use Rattle.tasks.specs.declared.walk.whole.Section.TheVariants as sections
 use Rattle.tasks.specs.declared.walk.whole.Stop.{Stop}
+use Rattle.capi.specs.declared.walk.whole.Item.{Item}
+use Rattle.capi.specs.declared.walk.whole.RoomNeeded.{RoomNeeded}
 
 -- the number of a section
 abbrev pub section_number : Section → ℕ

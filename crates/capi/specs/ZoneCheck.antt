@@ -4,8 +4,8 @@ use Rattle.std.specs.Prelude.{Option, Some, None, Ok, Err}
 use Rattle.tasks.specs.Asked.{Asked}
 use Rattle.tasks.specs.Refusals.{no_origin}
 use Rattle.tasks.specs.ZoneCheck.{ToldFault, zone_checked}
-use Rattle.capi.specs.declared.zone_check.FaultFound.{FaultFound}
 use Rattle.tasks.specs.declared.included.Included.{Included}
+use Rattle.capi.specs.declared.zone_check.FaultFound.{FaultFound}
 
 -- The fault of a text that a zone is to be opened at; of no origin it is asked for none.
 abbrev pub zone_fault : List ℕ → List ℕ → List Included → List ℕ → Asked (Option ToldFault)

@@ -8,11 +8,11 @@ use Rattle.base.specs.declared.limits.TheConstants.{MAX_MESSAGE}
 use Rattle.op.specs.Message.{MessageValue}
 use Rattle.op.specs.MessageWritten.{message_answer}
 use Rattle.tasks.specs.Asked.{Asked, written}
-use Rattle.capi.specs.Answer.{HasNoRoom, IsPut, IsTurnedAway}
-use Rattle.capi.specs.KeptPlace.{place_kept}
 use Rattle.tasks.specs.Message.{message_of}
 use Rattle.tasks.specs.Refusals.{closed, too_long}
 use Rattle.tasks.specs.declared.refusal.Refusal.{Refusal}
+use Rattle.capi.specs.Answer.{HasNoRoom, IsPut, IsTurnedAway}
+use Rattle.capi.specs.KeptPlace.{place_kept}
 use Rattle.capi.specs.declared.zone_handle.held.HeldZone.{HeldZone}
 use Rattle.capi.specs.declared.zone_handle.place.KeptPlace.{KeptPlace}
 

@@ -1,8 +1,8 @@
 //! How a call answers its caller.
 
 ghost use Rattle.std.specs.Prelude.{◌≡◌, ◌++◌, ◌<◌, ◌≤◌, ◌^◌, IfOk, drop, length, neg_ℤ, pos};
-ghost use Rattle.capi.specs.Answer.{IsLeft, IsNumber, number_made};
 ghost use Rattle.tasks.specs.Asked.{bytes_made};
+ghost use Rattle.capi.specs.Answer.{IsLeft, IsNumber, number_made};
 
 use tasks::refusal::Refusal;
 

@@ -1,7 +1,7 @@
 //! Updates applied to zone text (RFC 2136, 3).
 
-ghost use Rattle.capi.specs.Answer.{IsAnsweredBy};
 ghost use Rattle.tasks.specs.Applied.{IsApplied};
+ghost use Rattle.capi.specs.Answer.{IsAnsweredBy};
 
 use crate::answer::give;
 use std::alloc::Global;

@@ -1,7 +1,7 @@
 //! The header of a message (RFC 1035, 4.1.1).
 
-ghost use Rattle.capi.specs.Header.{IsHeaderFilled};
 ghost use Rattle.tasks.specs.Header.{first_header};
+ghost use Rattle.capi.specs.Header.{IsHeaderFilled};
 
 use crate::answer::number;
 use std::alloc::Global;

@@ -1,8 +1,8 @@
 //! Messages (RFC 1035, 4.1).
 
 ghost use Rattle.std.specs.Prelude.{◌<◌, ◌≤◌, length, take};
-ghost use Rattle.capi.specs.Answer.{IsAnswered, IsNumbered};
 ghost use Rattle.tasks.specs.Message.{IsCutOf, cut_of, end_of, text_of};
+ghost use Rattle.capi.specs.Answer.{IsAnswered, IsNumbered};
 
 use crate::answer::{give, number};
 use std::alloc::Global;

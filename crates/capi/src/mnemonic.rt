@@ -3,8 +3,8 @@
 ghost use Rattle.std.specs.Prelude.{◌≡◌, Ok};
 ghost use Rattle.base.specs.DNSClass.{class_of, class_text};
 ghost use Rattle.base.specs.RecordType.{type_of, type_text};
-ghost use Rattle.capi.specs.Answer.{IsAnswered, IsNumbered};
 ghost use Rattle.tasks.specs.Mnemonic.{class_asked, code_asked, code_mnemonic, type_asked};
+ghost use Rattle.capi.specs.Answer.{IsAnswered, IsNumbered};
 
 use crate::answer::{give, number};
 use std::alloc::Global;

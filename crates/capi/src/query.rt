@@ -1,7 +1,7 @@
 //! Queries (RFC 1035, 4.1.1 and 4.1.2), and NOTIFY (RFC 1996).
 
-ghost use Rattle.capi.specs.Answer.{IsAnswered};
 ghost use Rattle.tasks.specs.Query.{notify_sent, query_sent};
+ghost use Rattle.capi.specs.Answer.{IsAnswered};
 
 use crate::answer::give;
 use std::alloc::Global;

@@ -1,8 +1,8 @@
 //! Responses to queries (RFC 1035, 4.1; RFC 6895, 2; RFC 6891, 6.1.1).
 
+ghost use Rattle.tasks.specs.Reply.{IsBuilt, reply_asked};
 ghost use Rattle.capi.specs.Answer.{IsAnsweredBy};
 ghost use Rattle.capi.specs.ZoneHandle.{carrier};
-ghost use Rattle.tasks.specs.Reply.{IsBuilt, reply_asked};
 
 use crate::answer::give;
 use crate::zone_handle::carrier;

@@ -1,7 +1,7 @@
 //! What a response says (RFC 1035, 4.1; RFC 2308, 5).
 
-ghost use Rattle.capi.specs.Walk.{IsFound};
 ghost use Rattle.tasks.specs.Response.{found_response};
+ghost use Rattle.capi.specs.Walk.{IsFound};
 
 use crate::answer::number;
 use std::alloc::Global;

@@ -4,10 +4,10 @@
 //! lies in the zone, of a type that updates can change. Each message is written whole or not at all, and with `use_edns`
 //! takes answers of up to 1232 bytes.
 
-ghost use Rattle.capi.specs.Answer.{IsAnsweredBy};
 ghost use Rattle.tasks.specs.Update.{IsSent, transfer_asked};
-ghost use Rattle.capi.specs.Update.{IsUpdateAnswered};
 ghost use Rattle.tasks.specs.declared.update.built.Change.TheVariants as changes;
+ghost use Rattle.capi.specs.Answer.{IsAnsweredBy};
+ghost use Rattle.capi.specs.Update.{IsUpdateAnswered};
 
 use crate::answer::give;
 use std::alloc::Global;

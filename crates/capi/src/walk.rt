@@ -2,9 +2,9 @@
 //! 4.1).
 
 ghost use Rattle.std.specs.Prelude.{◌<◌, ◌^◌, IfOk};
+ghost use Rattle.tasks.specs.Walk.{Finds, data_text_at, found_option, found_query, found_record, name_text_at, told};
 ghost use Rattle.capi.specs.Answer.{IsAnswered};
 ghost use Rattle.capi.specs.Walk.{IsFilled, IsFound};
-ghost use Rattle.tasks.specs.Walk.{Finds, data_text_at, found_option, found_query, found_record, name_text_at, told};
 
 pub mod whole;
 

@@ -1,7 +1,7 @@
 //! Names and data in wire form, and their texts (RFC 1035, 3.1, 3.3 and 5.1).
 
-ghost use Rattle.capi.specs.Answer.{IsAnswered};
 ghost use Rattle.tasks.specs.WireForm.{data_wire, name_wire, wire_text};
+ghost use Rattle.capi.specs.Answer.{IsAnswered};
 
 use crate::answer::give;
 use std::alloc::Global;

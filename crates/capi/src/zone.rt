@@ -1,7 +1,7 @@
 //! Zone text (RFC 1035, 5.1).
 
-ghost use Rattle.capi.specs.Answer.{IsAnsweredBy};
 ghost use Rattle.tasks.specs.ZoneText.{IsCanonical};
+ghost use Rattle.capi.specs.Answer.{IsAnsweredBy};
 
 use crate::answer::give;
 use std::alloc::Global;

@@ -1,8 +1,8 @@
 //! Where zone text is refused, and for what (RFC 1035, 5.1).
 
 ghost use Rattle.std.specs.Prelude.{◌≡◌, ◌⊎◌, Err};
-ghost use Rattle.capi.specs.ZoneCheck.{IsChecked, fronted};
 ghost use Rattle.tasks.specs.ZoneCheck.{zone_checked};
+ghost use Rattle.capi.specs.ZoneCheck.{IsChecked, fronted};
 
 use crate::answer::{put, refusal_code};
 use std::alloc::Global;

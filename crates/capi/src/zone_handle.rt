@@ -6,8 +6,8 @@
 ghost use Rattle.std.specs.List.{list_any};
 ghost use Rattle.std.specs.Option.{option_map};
 ghost use Rattle.std.specs.Prelude.{◌≡◌, ◌≢◌, None, Some, false, neg_ℤ, pos};
-ghost use Rattle.capi.specs.Answer.{IsAnswered, IsAnsweredBy};
 ghost use Rattle.tasks.specs.Asked.{Makes, MakesBy};
+ghost use Rattle.capi.specs.Answer.{IsAnswered, IsAnsweredBy};
 ghost use Rattle.capi.specs.Holding.{EndsAlone, IsAlone, zone_held, zone_in};
 ghost use Rattle.capi.specs.ZoneCheck.{IsToldOf, zone_fault};
 ghost use Rattle.capi.specs.ZoneHandle.{answer_asked, answer_of, carrier, IsHeldText, IsOpenAt, IsOpened, IsRaisedIn, IsRaisingHeld, IsSharing, IsTextOf, IsUpdated, IsUpdating, Opens};

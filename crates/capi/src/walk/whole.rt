@@ -1,9 +1,9 @@
 //! A message walked whole, by one reader that keeps what pointers lead to, so that it costs what the bytes cost.
 
 ghost use Rattle.std.specs.Prelude.{◌≡◌, ◌++◌, ◌*◌, ◌<◌, ◌≤◌, ◌^◌, drop, length};
-ghost use Rattle.capi.specs.WalkWhole.{IsWalked, items_of, names_of, needed_for, octets_of, section_number};
 ghost use Rattle.tasks.specs.Walk.{told};
 ghost use Rattle.tasks.specs.WalkWhole.{walk_of};
+ghost use Rattle.capi.specs.WalkWhole.{IsWalked, items_of, names_of, needed_for, octets_of, section_number};
 
 use crate::answer::{NO_ROOM, number};
 use base::Name;
