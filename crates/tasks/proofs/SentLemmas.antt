@@ -1,5 +1,5 @@
 -- What is written of a message, as TC of its header says: all of it, or a part.
-use Rattle.std.proofs.Common.{Bool, Err, List, Ok, Result, [], ap, false, inl, inr, refl, sym, true, ℕ, ◌∷◌, ◌≡◌, ◌⊎◌}
+use Rattle.std.proofs.Common.{Bool, Err, List, Ok, [], ap, false, inl, inr, refl, sym, true, ℕ, ◌∷◌, ◌≡◌, ◌⊎◌}
 use Rattle.std.proofs.Common.{◌∙◌}
 use Rattle.std.specs.Prelude.{Option, None, Some, if◌then◌else◌, ◌||◌}
 use Rattle.base.specs.ProtoError.{proto_number}
