@@ -1,11 +1,14 @@
--- What stands in the caller's buffer, and how refusals are handed on.
-use Rattle.std.proofs.Common.{Bool, IsTrue, ◌∙◌, ◌≡◌, ◌⊎◌, ◌<◌, ◌≤◌, false, inl, inr, ap, arith, drop, length, rules}
-use Rattle.std.proofs.Common.{sym, subst, take, Err, List, Ok, Result, ℕ}
+-- What stands in the caller's buffer.
+use Rattle.std.proofs.Common.{◌∙◌, ◌<◌, ◌≤◌, inl, inr, ap, arith, drop, length, sym, subst, take, Err, List, Ok, Result, ℕ}
 use Rattle.std.proofs.lemmas.List.{take_at}
-use Rattle.std.specs.Prelude.{IfOk, Vec, ℤ}
+use Rattle.std.specs.Prelude.{Bool, IfOk, Vec, ℤ}
 use Rattle.std.specs.declared.alloc.Global.{Global}
-use Rattle.capi.specs.Answer.{Asked, ◌>>=◌, IsAnswered, IsAnsweredBy, IsLeft, IsTurnedAway, Makes, MakesBy, bytes_made}
-use Rattle.capi.specs.declared.refusal.Refusal.{Refusal}
+use Rattle.tasks.specs.Asked.{Asked, Makes, MakesBy, bytes_made}
+use Rattle.tasks.specs.Update.{IsSent, IsUpdate, update_asked}
+use Rattle.tasks.specs.declared.refusal.Refusal.{Refusal}
+use Rattle.tasks.specs.declared.update.built.Change.{Change}
+use Rattle.capi.specs.Answer.{IsAnswered, IsAnsweredBy, IsLeft, IsTurnedAway}
+use Rattle.capi.specs.Update.{IsUpdateAnswered}
 
 -- what holds of the bytes that were made holds of those that were put into a buffer with room for them
 pub put_holds : (P : List ℕ → Type 0) (made : Result (Vec ℕ Global) Refusal) (old new : List ℕ) (needed : ℕ)
@@ -39,27 +42,13 @@ answered asked (Err refusal) old new needed result (inl memory) left =
 answered asked (Err refusal) old new needed result (inr is) left =
     inl (subst (λ a. IsLeft a old new needed result) (sym is) left)
 
--- ---- refusals
-
--- a refusal comes of what refuses, or memory ran out
-pub refusal_comes : {P A : Type 0} (Comes : Asked A → Type 0) (number : ℕ) → (number ≡ 3) ⊎ P
-    → (P → Comes (Err number))
-    → Comes (Err number) ⊎ (◌≡◌ {A = Asked A} (Err number) (Err 3))
-refusal_comes Comes number (inl memory) refuses = inr (ap (λ x. Err x) memory)
-refusal_comes Comes number (inr is) refuses = inl (refuses is)
-
-module _ {A B : Type 0} (asked : Asked A) (next : A → Asked B) (number : ℕ) where
-  -- what is asked for first refuses all
-  pub first_refused : (number ≡ 3) ⊎ (asked ≡ Err number) → (number ≡ 3) ⊎ ((asked >>= next) ≡ Err number)
-  first_refused (inl memory) = inl memory
-  first_refused (inr is) = inr (ap (λ (a : Asked A). a >>= next) is)
-
-  -- and so does what is asked for next
-  pub next_refused : (x : A) → asked ≡ Ok x → (number ≡ 3) ⊎ (next x ≡ Err number)
-      → (number ≡ 3) ⊎ ((asked >>= next) ≡ Err number)
-  next_refused x found (inl memory) = inl memory
-  next_refused x found (inr is) = inr (ap (λ (a : Asked A). a >>= next) found ∙ is)
-
--- what is told not to fit doesn't
-pub not_fitting : (Fits : Type 0) (told : Bool) → (Fits → IsTrue told) → told ≡ false → ¬ Fits
-not_fitting Fits told says is = λ fits. search (rules, subst IsTrue is (says fits))
+-- what comes of an update is answered by what is left of it
+pub update_answered : (id : ℕ) (use_edns : Bool) (origin : List ℕ) (change : Change)
+    (made : Result (Vec ℕ Global) Refusal) (old new : List ℕ) (needed : ℕ) (result : ℤ)
+    → MakesBy (IsSent (update_asked id use_edns origin change)) made
+    → IfOk made (λ bytes. IsUpdate origin change bytes.items)
+    → IsLeft (bytes_made made) old new needed result → IsUpdateAnswered id use_edns origin change old new needed result
+update_answered id use_edns origin change made old new needed result comes means left = record {
+  sent = answered_by (IsSent (update_asked id use_edns origin change)) made old new needed result comes left;
+  update = λ some room. put_holds (IsUpdate origin change) made old new needed result means left some room;
+}

@@ -18,12 +18,12 @@ use Rattle.op_use.specs.Server.{sections_of}
 use Rattle.rr.specs.RecordSet.{SetValue}
 use Rattle.std.specs.Option.{option_and_then}
 use Rattle.std.specs.declared.alloc.Global.{Global}
-use Rattle.capi.specs.Answer.{Asked}
+use Rattle.tasks.specs.Asked.{Asked}
+use Rattle.tasks.specs.declared.refusal.Refusal.{Refusal}
 use Rattle.capi.specs.Holding.{EndsAlone, IsAlone, Shares, is_shared, zone_held, zone_in}
 use Rattle.capi.specs.ZoneHandle.{IsHeld, IsOpen, IsOpenAt, IsRaisedIn, IsRaising, IsServed, IsSharing, IsSpared}
 use Rattle.capi.specs.ZoneHandle.{IsUpdated, IsUpdating}
 use Rattle.capi.specs.ZoneHandle.{IsRaisingHeld, ZoneParts, parts_of}
-use Rattle.capi.specs.declared.refusal.Refusal.{Refusal}
 use Rattle.capi.specs.declared.zone_handle.held.HeldZone.{HeldZone}
 use Rattle.capi.specs.declared.zone_handle.holding.Holding.{Holding}
 use Rattle.capi.specs.declared.zone_handle.holding.Holding.TheVariants as holdings

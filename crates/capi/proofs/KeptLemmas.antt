@@ -16,7 +16,7 @@ use Rattle.base.specs.names.NameOrder.{folded}
 use Rattle.base.specs.reading.Names.{name_at}
 use Rattle.base.specs.reading.PointerLemmas.{labels_stand}
 use Rattle.base.specs.reading.Spelling.{Spelled}
-use Rattle.capi.specs.Answer.{Asked, ◌>>=◌}
+use Rattle.tasks.specs.Asked.{Asked, ◌>>=◌}
 use Rattle.capi.specs.KeptPlace.{key_kept, key_read, type_by}
 use Rattle.capi.specs.WalkWhole.{octets_of}
 use Rattle.capi.specs.declared.zone_handle.place.KeptPlace.{KeptPlace}

@@ -1,17 +1,9 @@
 mod AnswerLemmas
-mod AppliedText
 mod BoxValues
 mod CheckLemmas
 mod HandleLemmas
 mod HandleValues
 mod HoldingLemmas
 mod KeptLemmas
-mod MessageLemmas
-mod MnemonicLemmas
-mod ReplyLemmas
-mod ResponseLemmas
-mod SentLemmas
 mod ServedLemmas
-mod SoundLemmas
-mod TextLemmas
 mod WalkLemmas

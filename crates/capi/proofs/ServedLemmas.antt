@@ -9,8 +9,8 @@ use Rattle.base.specs.declared.error.proto_error.ProtoError.{ProtoError}
 use Rattle.base.specs.declared.limits.TheConstants.{MAX_MESSAGE}
 use Rattle.op.specs.Message.{MessageValue}
 use Rattle.op.specs.MessageWritten.{message_answer}
-use Rattle.capi.specs.Answer.{Asked, written}
-use Rattle.capi.specs.Refusals.{too_long}
+use Rattle.tasks.specs.Asked.{Asked, written}
+use Rattle.tasks.specs.Refusals.{too_long}
 use Rattle.capi.specs.ZoneTransfer.{IsAskedAt, IsNextIn, IsServed}
 use Rattle.capi.specs.ZoneTransfer.IsServed.{too_large, unwritten}
 use Rattle.capi.specs.declared.zone_handle.held.HeldZone.{HeldZone}

@@ -3,8 +3,8 @@ use Rattle.std.specs.Arc.{arc_value}
 use Rattle.std.specs.declared.sync.Arc.{Arc}
 use Rattle.std.specs.Prelude.{Bool, Err, None, Ok, Option, Result, Some, false, pos, true, ℕ, ℤ, ◌≡◌}
 use Rattle.std.specs.declared.alloc.Global.{Global}
-use Rattle.capi.specs.Refusals.{closed}
-use Rattle.capi.specs.declared.refusal.Refusal.{Refusal}
+use Rattle.tasks.specs.Refusals.{closed}
+use Rattle.tasks.specs.declared.refusal.Refusal.{Refusal}
 use Rattle.capi.specs.declared.zone_handle.held.HeldZone.{HeldZone}
 use Rattle.capi.specs.declared.zone_handle.holding.Holding.{Holding}
 use Rattle.capi.specs.declared.zone_handle.holding.Holding.TheVariants as holdings

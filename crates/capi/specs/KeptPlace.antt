@@ -10,8 +10,8 @@ use Rattle.base.specs.declared.rr_key.RrKey.{RrKey}
 use Rattle.base.specs.names.Labels.{NameValue}
 use Rattle.base.specs.reading.Names.{name_at}
 use Rattle.base.specs.reading.Reading.{Read}
-use Rattle.capi.specs.Answer.{Asked, ◌>>=◌}
-use Rattle.capi.specs.Refusals.{no_place}
+use Rattle.tasks.specs.Asked.{Asked, ◌>>=◌}
+use Rattle.tasks.specs.Refusals.{no_place}
 use Rattle.capi.specs.declared.zone_handle.place.KeptPlace.{KeptPlace}
 
 -- the type of this number, or, where the flag isn't 0, that without a name

@@ -1,58 +1,16 @@
--- What the check of zone text is asked for: whether the text is refused, for what, and where.
-use Rattle.std.specs.Prelude.{◌≡◌, ◌⊎◌, ◌++◌, ℕ, ℤ, List, [], ◌∷◌, drop, length, neg_ℤ, pos, take, true}
-use Rattle.std.specs.Prelude.{Option, Some, None, Result, Ok, Err}
-use Rattle.std.specs.String.{string_bytes}
-use Rattle.txt.specs.Places.{Position}
-use Rattle.txt.specs.Zone.{PlacedFault, no_texts, placed_zone_by}
-use Rattle.parsed_zone.specs.Faults.{fault_number}
-use Rattle.capi.specs.Answer.{Asked, ◌>>=◌}
-use Rattle.capi.specs.Refusals.{no_origin}
-use Rattle.capi.specs.ZoneText.{characters, origin_of_text, with_texts}
+-- What the check of zone text tells its caller.
+use Rattle.std.specs.Prelude.{◌≡◌, ◌⊎◌, ◌++◌, ℕ, ℤ, List, [], ◌∷◌, drop, length, neg_ℤ, pos, take}
+use Rattle.std.specs.Prelude.{Option, Some, None, Ok, Err}
+use Rattle.tasks.specs.Asked.{Asked}
+use Rattle.tasks.specs.Refusals.{no_origin}
+use Rattle.tasks.specs.ZoneCheck.{ToldFault, zone_checked}
+use Rattle.tasks.specs.declared.included.Included.{Included}
 use Rattle.capi.specs.declared.zone_check.FaultFound.{FaultFound}
-use Rattle.capi.specs.declared.included.Included.{Included}
-use Rattle.capi.specs.declared.zone_check.Told.{Told}
-
--- a fault as it is told: its number, the name of the included text that it stands in, if it is one, and its place there
-pub record ToldFault : Type 0 where
-  pub number : ℕ
-  pub name : List ℕ
-  pub position : Position
-
--- the name of the last text that was opened; without one, this
-abbrev pub last_name : List ℕ → List (List ℕ × ℕ) → List ℕ
-last_name name [] = name
-last_name name (inclusion ∷ more) = last_name inclusion.0 more
-
--- the fault that a text has, if it has one
-abbrev pub fault_told : {A : Type 0} → Result A PlacedFault → Option ToldFault
-fault_told (Ok zone) = None
-fault_told (Err found) = Some (record {
-  number = fault_number found.fault;
-  name = last_name [] found.opened;
-  position = found.position;
-})
-
--- the fault of a text under the origin that a text names, if it does, where these texts may be included
-abbrev pub zone_checked : List ℕ → List ℕ → List Included → List ℕ → Asked (Option ToldFault)
-zone_checked origin text included bytes =
-    origin_of_text origin >>= λ under. characters text >>= λ chars.
-    with_texts no_texts included bytes >>= λ texts.
-    Ok (fault_told (placed_zone_by true texts under chars))
 
 -- The fault of a text that a zone is to be opened at; of no origin it is asked for none.
 abbrev pub zone_fault : List ℕ → List ℕ → List Included → List ℕ → Asked (Option ToldFault)
 zone_fault [] text included bytes = Err no_origin
 zone_fault (c ∷ cs) text included bytes = zone_checked (c ∷ cs) text included bytes
-
--- the fault that is told
-abbrev pub told_value : Told → ToldFault
-told_value told = record {
-  number = told.refusal.number;
-  name = string_bytes told.name;
-  position = record { line = told.line; column = told.column };
-}
-
--- ---- what the caller is left with
 
 -- a buffer at whose front bytes stand, as many as have room
 abbrev pub fronted : List ℕ → List ℕ → List ℕ

@@ -23,14 +23,14 @@ use Rattle.parsed_zone.specs.Classes.{are_sets_in}
 use Rattle.parsed_zone.specs.ZoneText.{zone_lines}
 use Rattle.rr.specs.RecordSet.{SetValue}
 use Rattle.txt.specs.ZoneSets.{ZoneSets}
-use Rattle.capi.specs.Answer.{Asked}
-use Rattle.capi.specs.Applied.{are_anames}
+use Rattle.tasks.specs.Asked.{Asked}
+use Rattle.tasks.specs.Applied.{are_anames}
+use Rattle.tasks.specs.Message.{message_of}
+use Rattle.tasks.specs.Refusals.{closed, no_soa, not_on_wire, other_class, two_anames}
+use Rattle.tasks.specs.ZoneText.{FitsWire, IsZoneText, zone_asked}
+use Rattle.tasks.specs.declared.included.Included.{Included}
+use Rattle.tasks.specs.declared.refusal.Refusal.{Refusal}
 use Rattle.capi.specs.Holding.{IsAlone, IsShared, zone_held, zone_in}
-use Rattle.capi.specs.Message.{message_of}
-use Rattle.capi.specs.Refusals.{closed, no_soa, not_on_wire, other_class, two_anames}
-use Rattle.capi.specs.ZoneText.{FitsWire, IsZoneText, zone_asked}
-use Rattle.capi.specs.declared.included.Included.{Included}
-use Rattle.capi.specs.declared.refusal.Refusal.{Refusal}
 use Rattle.capi.specs.declared.zone_handle.held.HeldZone.{HeldZone}
 use Rattle.capi.specs.declared.zone_handle.holding.Holding.{Holding}
 

@@ -7,11 +7,12 @@ use Rattle.base.specs.declared.dns_class.DNSClass.TheVariants as classes
 use Rattle.base.specs.declared.limits.TheConstants.{MAX_MESSAGE}
 use Rattle.op.specs.Message.{MessageValue}
 use Rattle.op.specs.MessageWritten.{message_answer}
-use Rattle.capi.specs.Answer.{Asked, HasNoRoom, IsPut, IsTurnedAway, written}
+use Rattle.tasks.specs.Asked.{Asked, written}
+use Rattle.tasks.specs.Message.{message_of}
+use Rattle.tasks.specs.Refusals.{closed, too_long}
+use Rattle.tasks.specs.declared.refusal.Refusal.{Refusal}
+use Rattle.capi.specs.Answer.{HasNoRoom, IsPut, IsTurnedAway}
 use Rattle.capi.specs.KeptPlace.{place_kept}
-use Rattle.capi.specs.Message.{message_of}
-use Rattle.capi.specs.Refusals.{closed, too_long}
-use Rattle.capi.specs.declared.refusal.Refusal.{Refusal}
 use Rattle.capi.specs.declared.zone_handle.held.HeldZone.{HeldZone}
 use Rattle.capi.specs.declared.zone_handle.place.KeptPlace.{KeptPlace}
 

@@ -1,9 +1,10 @@
 //! How a call answers its caller.
 
 ghost use Rattle.std.specs.Prelude.{◌≡◌, ◌++◌, ◌<◌, ◌≤◌, ◌^◌, IfOk, drop, length, neg_ℤ, pos};
-ghost use Rattle.capi.specs.Answer.{IsLeft, IsNumber, bytes_made, number_made};
+ghost use Rattle.tasks.specs.Asked.{bytes_made};
+ghost use Rattle.capi.specs.Answer.{IsLeft, IsNumber, number_made};
 
-use crate::refusal::Refusal;
+use tasks::refusal::Refusal;
 
 /// What is answered where the caller's buffer has no room.
 pub const NO_ROOM: i64 = -100;

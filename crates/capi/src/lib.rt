@@ -6,13 +6,10 @@
 
 mod answer;
 mod applied;
-mod fits;
 mod header;
-mod included;
 mod message;
 mod mnemonic;
 mod query;
-mod refusal;
 mod reply;
 mod response;
 #[cfg(test)]

@@ -13,17 +13,18 @@ mod updates;
 mod wire_forms;
 mod zone_check;
 
-use crate::header::{HeaderNumbers, fuzsbanel_header};
+use crate::header::fuzsbanel_header;
 use crate::message::{fuzsbanel_check, fuzsbanel_cut, fuzsbanel_text};
 use crate::walk::whole::{Item, RoomNeeded, fuzsbanel_walk};
 use crate::walk::{
-    OptionFound, QueryFound, RecordFound, fuzsbanel_data_text, fuzsbanel_name, fuzsbanel_option,
-    fuzsbanel_query, fuzsbanel_record,
+    fuzsbanel_data_text, fuzsbanel_name, fuzsbanel_option, fuzsbanel_query, fuzsbanel_record,
 };
 use crate::zone_check::FaultFound;
 use crate::zone_handle::fuzsbanel_zone_open;
 use crate::zone_handle::handle::ZoneHandle;
 use std::alloc::Global;
+use tasks::header::HeaderNumbers;
+use tasks::walk::{OptionFound, QueryFound, RecordFound};
 
 /// A response with the address of `www.example.com`.
 const RESPONSE: &[u8] =

@@ -4,16 +4,14 @@
 //! lies in the zone, of a type that updates can change. Each message is written whole or not at all, and with `use_edns`
 //! takes answers of up to 1232 bytes.
 
+ghost use Rattle.tasks.specs.Update.{IsSent, transfer_asked};
+ghost use Rattle.tasks.specs.declared.update.built.Change.TheVariants as changes;
 ghost use Rattle.capi.specs.Answer.{IsAnsweredBy};
-ghost use Rattle.capi.specs.Update.{IsSent, IsUpdateAnswered, transfer_asked};
-ghost use Rattle.capi.specs.declared.update.built.Change.TheVariants as changes;
-
-mod built;
-pub mod sets;
+ghost use Rattle.capi.specs.Update.{IsUpdateAnswered};
 
 use crate::answer::give;
-use crate::update::built::{Change, transfer, update};
 use std::alloc::Global;
+use tasks::update::built::{Change, transfer, update};
 
 /// Writes the update that creates a set into the caller's buffer: its prerequisite is that the zone has no set of that
 /// owner and type (RFC 2136, 2.4.3 and 2.5.1).

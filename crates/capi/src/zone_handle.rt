@@ -6,7 +6,8 @@
 ghost use Rattle.std.specs.List.{list_any};
 ghost use Rattle.std.specs.Option.{option_map};
 ghost use Rattle.std.specs.Prelude.{◌≡◌, ◌≢◌, None, Some, false, neg_ℤ, pos};
-ghost use Rattle.capi.specs.Answer.{IsAnswered, IsAnsweredBy, Makes, MakesBy};
+ghost use Rattle.tasks.specs.Asked.{Makes, MakesBy};
+ghost use Rattle.capi.specs.Answer.{IsAnswered, IsAnsweredBy};
 ghost use Rattle.capi.specs.Holding.{EndsAlone, IsAlone, zone_held, zone_in};
 ghost use Rattle.capi.specs.ZoneCheck.{IsToldOf, zone_fault};
 ghost use Rattle.capi.specs.ZoneHandle.{answer_asked, answer_of, carrier, IsHeldText, IsOpenAt, IsOpened, IsRaisedIn, IsRaisingHeld, IsSharing, IsTextOf, IsUpdated, IsUpdating, Opens};
@@ -19,12 +20,6 @@ pub mod place;
 pub mod transfer;
 
 use crate::answer::{NO_MEMORY, give, number, refusal_code};
-use crate::applied::has_two_anames;
-use crate::fits::fits_wire;
-use crate::included::Included;
-use crate::message::message_of;
-use crate::refusal::Refusal;
-use crate::zone::zone_asked;
 use crate::zone_check::{FaultFound, fuzsbanel_zone_check};
 use authority::{Carrier, respond};
 use base::{DNSClass, RecordType, RrKey};
@@ -36,6 +31,12 @@ use op_use::{apply_in_place, raise_serial};
 use parsed_zone::{are_sets_in, zone_lines};
 use std::alloc::{AllocError, Global};
 use std::mem;
+use tasks::applied::has_two_anames;
+use tasks::fits::fits_wire;
+use tasks::included::Included;
+use tasks::message::message_of;
+use tasks::refusal::Refusal;
+use tasks::zone::zone_asked;
 
 /// Opens a handle at the zone of an origin, whose records are those of a text, and answers 0. What the handle held
 /// before is freed. The text is read as `fuzsbanel_apply` reads one: an `$ORIGIN` of it is that of names, and never of

@@ -1,7 +1,8 @@
 //! Queries and NOTIFY that are built, and what a response says.
 
 use crate::query::{fuzsbanel_build_notify, fuzsbanel_build_query};
-use crate::response::{ResponseFacts, fuzsbanel_response};
+use crate::response::fuzsbanel_response;
+use tasks::response::ResponseFacts;
 
 const QUERY: &[u8] = b"\0\x09\x01\0\0\x01\0\0\0\0\0\0\x03www\x07example\0\0\x01\0\x01";
 

@@ -1,7 +1,6 @@
 //! A zone that is held: each export on it, over updates of RFC 2136.
 
 use super::open;
-use crate::included::Included;
 use crate::update::{fuzsbanel_create, fuzsbanel_delete_all};
 use crate::zone_check::FaultFound;
 use crate::zone_handle::handle::ZoneHandle;
@@ -10,6 +9,7 @@ use crate::zone_handle::{
     fuzsbanel_zone_update,
 };
 use std::alloc::Global;
+use tasks::included::Included;
 
 const ORIGIN: &[u8] = b"example.";
 

@@ -6,10 +6,9 @@ use crate::update::{
     fuzsbanel_create, fuzsbanel_delete_all, fuzsbanel_delete_rrset, fuzsbanel_zone_transfer,
 };
 use crate::walk::whole::{RoomNeeded, fuzsbanel_walk};
-use crate::walk::{
-    QueryFound, fuzsbanel_data_text, fuzsbanel_name, fuzsbanel_query, fuzsbanel_record,
-};
+use crate::walk::{fuzsbanel_data_text, fuzsbanel_name, fuzsbanel_query, fuzsbanel_record};
 use crate::zone::fuzsbanel_zone;
+use tasks::walk::QueryFound;
 
 const ORIGIN: &[u8] = b"a-name-with-memory-of-its-own.example.";
 

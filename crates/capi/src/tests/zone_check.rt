@@ -1,7 +1,7 @@
 //! Where zone text is refused: the number, the included text, line and column, and the words.
 
-use crate::included::Included;
 use crate::zone_check::{FaultFound, fuzsbanel_zone_check};
+use tasks::included::Included;
 
 /// Two texts that may be included, `a` twice and `b`, each after its name.
 const INCLUDED: &[Included] = &[

@@ -5,11 +5,11 @@ ghost use Rattle.capi.specs.ZoneHandle.{parts_in, parts_of};
 ghost use Rattle.std.specs.Option.{option_copied};
 ghost use Rattle.std.specs.Prelude.{◌≡◌, IfOk, OnErr, OnOk, false, true};
 
-use crate::refusal::Refusal;
 use crate::zone_handle::held::HeldZone;
 use std::alloc::{AllocError, Global};
 use std::mem;
 use std::sync::Arc;
+use tasks::refusal::Refusal;
 
 /// How a handle holds its zone.
 #[derive(Drop)]

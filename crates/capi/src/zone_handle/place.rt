@@ -2,15 +2,15 @@
 
 ghost use Rattle.authority.specs.declared.transferring.TransferPlace.TheVariants as places;
 ghost use Rattle.base.specs.RecordType.{type_number};
-ghost use Rattle.capi.specs.Answer.{Makes};
+ghost use Rattle.tasks.specs.Asked.{Makes};
 ghost use Rattle.capi.specs.KeptPlace.{key_kept, place_kept, type_by};
 ghost use Rattle.std.specs.Prelude.{Ok, ◌≡◌};
 
-use crate::refusal::Refusal;
 use crate::walk::whole::put_name;
 use authority::TransferPlace;
 use base::{BinDecodable, BinDecoder, DecodeError, LowerName, Name, RecordType, RrKey};
 use std::alloc::{AllocError, Global};
+use tasks::refusal::Refusal;
 
 /// Where the next message of a transfer begins, `struct fuzsbanel_transfer_place` of C: zero bytes are the start. Its
 /// fields are the library's.

@@ -10,11 +10,11 @@ use super::holding::Holding;
 use super::place::KeptPlace;
 use super::{put, take};
 use crate::answer::give;
-use crate::message::message_of;
-use crate::refusal::Refusal;
 use authority::transfer;
 use base::{DNSClass, ProtoError};
 use std::alloc::Global;
+use tasks::message::message_of;
+use tasks::refusal::Refusal;
 
 /// Writes the next message of a zone transfer into the caller's buffer, and moves the place after it; 0 bytes where
 /// nothing is sent, at the transfer's end or to a response, and the place stays. A place begins as zero bytes, and is

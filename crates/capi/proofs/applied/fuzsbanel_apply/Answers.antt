@@ -1,7 +1,7 @@
 use Rattle.std.proofs.Common.{rules}
+use Rattle.tasks.specs.Applied.{IsApplied}
 use Rattle.capi.proofs.AnswerLemmas.{answered_by}
 use Rattle.capi.specs.Answer.{IsAnsweredBy}
-use Rattle.capi.specs.Applied.{IsApplied}
 use Rattle.capi.proofs.applied.fuzsbanel_apply.Goals as goal
 
 pub returns : goal.returns

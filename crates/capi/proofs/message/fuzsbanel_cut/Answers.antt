@@ -1,6 +1,6 @@
 use Rattle.std.proofs.Common.{List, ℕ}
+use Rattle.tasks.specs.Message.{IsCutOf}
 use Rattle.capi.proofs.AnswerLemmas.{put_holds}
-use Rattle.capi.specs.Message.{IsCutOf}
 use Rattle.capi.proofs.message.fuzsbanel_cut.Goals as goal
 
 pub returns-clause-cut : goal.returns-clause-cut

@@ -1,10 +1,11 @@
 use Rattle.std.proofs.Common.{rules, subst}
 use Rattle.authority.specs.declared.sending.Carrier.{Carrier}
+use Rattle.tasks.specs.Asked.{MakesBy}
+use Rattle.tasks.specs.Reply.{IsBuilt, reply_asked}
+use Rattle.tasks.specs.declared.reply.Says.{Says}
 use Rattle.capi.proofs.AnswerLemmas.{answered_by}
-use Rattle.capi.specs.Answer.{IsAnsweredBy, MakesBy}
-use Rattle.capi.specs.Reply.{IsBuilt, reply_asked}
+use Rattle.capi.specs.Answer.{IsAnsweredBy}
 use Rattle.capi.specs.ZoneHandle.{carrier}
-use Rattle.capi.specs.declared.reply.Says.{Says}
 use Rattle.capi.proofs.reply.fuzsbanel_build_response.Goals as goal
 
 pub returns : goal.returns

@@ -1,7 +1,7 @@
 use Rattle.std.proofs.Common.{rules}
+use Rattle.tasks.specs.Update.{IsSent, transfer_asked}
 use Rattle.capi.proofs.AnswerLemmas.{answered_by}
 use Rattle.capi.specs.Answer.{IsAnsweredBy}
-use Rattle.capi.specs.Update.{IsSent, transfer_asked}
 use Rattle.capi.proofs.update.fuzsbanel_zone_transfer.Goals as goal
 
 pub returns : goal.returns

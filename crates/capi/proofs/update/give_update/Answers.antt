@@ -1,5 +1,5 @@
 use Rattle.std.proofs.Common.{rules}
-use Rattle.capi.proofs.SentLemmas.{update_answered}
+use Rattle.capi.proofs.AnswerLemmas.{update_answered}
 use Rattle.capi.specs.Update.{IsUpdateAnswered}
 use Rattle.capi.proofs.update.give_update.Goals as goal
 

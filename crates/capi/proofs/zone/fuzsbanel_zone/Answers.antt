@@ -1,7 +1,7 @@
 use Rattle.std.proofs.Common.{rules}
+use Rattle.tasks.specs.ZoneText.{IsCanonical}
 use Rattle.capi.proofs.AnswerLemmas.{answered_by}
 use Rattle.capi.specs.Answer.{IsAnsweredBy}
-use Rattle.capi.specs.ZoneText.{IsCanonical}
 use Rattle.capi.proofs.zone.fuzsbanel_zone.Goals as goal
 
 pub returns : goal.returns

@@ -1,7 +1,8 @@
 use Rattle.std.proofs.Common.{length, rules, Ok, Some, ◌≡◌}
 use Rattle.std.specs.String.{string_bytes}
+use Rattle.tasks.specs.ZoneCheck.{told_value, zone_checked}
 use Rattle.capi.proofs.CheckLemmas.{is_told}
-use Rattle.capi.specs.ZoneCheck.{IsChecked, fronted, told_value, zone_checked}
+use Rattle.capi.specs.ZoneCheck.{IsChecked, fronted}
 use Rattle.capi.proofs.zone_check.fuzsbanel_zone_check.Goals as goal
 
 pub returns-in-Ok-Some : goal.returns-in-Ok-Some

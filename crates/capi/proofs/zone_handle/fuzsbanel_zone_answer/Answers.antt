@@ -1,7 +1,8 @@
 use Rattle.std.proofs.Common.{of_z, subst, sym, to_z, w64, ℤ, ◌≡◌}
 use Rattle.std.proofs.lemmas.Int.{to_z-of_z}
+use Rattle.tasks.specs.Asked.{Makes, bytes_made}
 use Rattle.capi.proofs.AnswerLemmas.{answered}
-use Rattle.capi.specs.Answer.{IsLeft, Makes, bytes_made}
+use Rattle.capi.specs.Answer.{IsLeft}
 use Rattle.capi.specs.Holding.{zone_held, zone_in}
 use Rattle.capi.specs.ZoneHandle.{answer_asked, carrier}
 use Rattle.capi.proofs.zone_handle.fuzsbanel_zone_answer.Goals as goal

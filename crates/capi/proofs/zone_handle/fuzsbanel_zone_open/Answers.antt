@@ -1,8 +1,8 @@
 use Rattle.std.proofs.Common.{of_z, subst, sym, to_z, w64, ℤ, ◌∙◌, ◌≡◌, refl}
 use Rattle.std.proofs.lemmas.Int.{to_z-of_z}
+use Rattle.tasks.specs.ZoneText.{zone_asked}
 use Rattle.capi.proofs.HoldingLemmas.{opening_made, opening_refused}
 use Rattle.capi.specs.ZoneHandle.{IsOpenAt}
-use Rattle.capi.specs.ZoneText.{zone_asked}
 use Rattle.capi.specs.declared.zone_handle.holding.Holding.TheVariants as holdings
 use Rattle.capi.proofs.zone_handle.fuzsbanel_zone_open.Goals as goal
 

@@ -2,10 +2,10 @@ use Rattle.std.proofs.Common.{Err, Ok, Result, of_z, subst, sym, to_z, w64, ℤ,
 use Rattle.std.proofs.lemmas.Int.{to_z-of_z}
 use Rattle.std.specs.declared.sync.Arc.{Arc}
 use Rattle.std.specs.declared.alloc.Global.{Global}
+use Rattle.tasks.specs.declared.refusal.Refusal.{Refusal}
 use Rattle.capi.proofs.HoldingLemmas.{sharing_made, sharing_refused}
 use Rattle.capi.specs.Holding.{Shares, zone_held, zone_in}
 use Rattle.capi.specs.ZoneHandle.{IsOpenAt}
-use Rattle.capi.specs.declared.refusal.Refusal.{Refusal}
 use Rattle.capi.specs.declared.zone_handle.held.HeldZone.{HeldZone}
 use Rattle.capi.specs.declared.zone_handle.holding.Holding.TheVariants as holdings
 use Rattle.capi.proofs.zone_handle.fuzsbanel_zone_share.Goals as goal

@@ -2,13 +2,13 @@ use Rattle.std.proofs.Common.{Bool, Err, List, Ok, ap, inl, refl, rules, sym, �
 use Rattle.std.specs.Prelude.{Vec, if◌then◌else◌}
 use Rattle.std.specs.declared.alloc.Global.{Global}
 use Rattle.parsed_zone.specs.ZoneText.{zone_lines}
-use Rattle.capi.proofs.AnswerLemmas.{not_fitting}
+use Rattle.tasks.proofs.RefusalLemmas.{not_fitting}
+use Rattle.tasks.specs.Asked.{Asked}
+use Rattle.tasks.specs.Refusals.{two_anames}
+use Rattle.tasks.specs.ZoneText.{FitsWire}
+use Rattle.tasks.specs.ZoneText.IsZoneText.{unfit, written}
 use Rattle.capi.proofs.HandleLemmas.{copied}
-use Rattle.capi.specs.Answer.{Asked}
-use Rattle.capi.specs.Refusals.{two_anames}
 use Rattle.capi.specs.ZoneHandle.{ZoneParts, lines_of, parts_of}
-use Rattle.capi.specs.ZoneText.{FitsWire}
-use Rattle.capi.specs.ZoneText.IsZoneText.{unfit, written}
 use Rattle.capi.proofs.zone_handle.text_of.Goals as goal
 
 -- the lines of a zone, by whether it has two ANAME records of one owner

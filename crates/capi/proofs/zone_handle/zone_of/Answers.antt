@@ -1,10 +1,10 @@
 use Rattle.std.proofs.Common.{inl, rules, sym, ◌∙◌}
 use Rattle.std.proofs.lemmas.Result.{err_from_is_err_and}
 use Rattle.parsed_zone.proofs.ZoneMaps.{parsed_map}
-use Rattle.capi.proofs.AnswerLemmas.{not_fitting, refusal_comes}
+use Rattle.tasks.proofs.RefusalLemmas.{not_fitting, refusal_comes}
+use Rattle.tasks.specs.ZoneText.{FitsWire, zone_asked}
 use Rattle.capi.specs.ZoneHandle.{IsHeld}
 use Rattle.capi.specs.ZoneHandle.IsHeld.{foreign, refused, unfit, whole}
-use Rattle.capi.specs.ZoneText.{FitsWire, zone_asked}
 use Rattle.capi.proofs.zone_handle.zone_of.Goals as goal
 
 pub returns-in_err-origin : goal.returns-in_err-origin

@@ -1,8 +1,8 @@
 use Rattle.std.proofs.Common.{Err, inl, of_z, refl, subst, sym, to_z, w64, ◌≡◌}
 use Rattle.std.proofs.lemmas.Int.{to_z-of_z}
+use Rattle.tasks.specs.Refusals.{closed}
 use Rattle.capi.specs.Answer.{IsTurnedAway}
 use Rattle.capi.specs.Holding.{zone_held}
-use Rattle.capi.specs.Refusals.{closed}
 use Rattle.capi.specs.ZoneTransfer.{IsServedFrom}
 use Rattle.capi.proofs.zone_handle.transfer.fuzsbanel_zone_serve_transfer.Goals as goal
 

@@ -4,7 +4,7 @@ use Rattle.std.specs.Prelude.{Option, option_map}
 use Rattle.authority.specs.declared.transferring.TransferPlace.{TransferPlace}
 use Rattle.op.specs.Message.{MessageValue, message_value}
 use Rattle.op.specs.declared.message.Message.{Message}
-use Rattle.capi.proofs.AnswerLemmas.{refusal_comes}
+use Rattle.tasks.proofs.RefusalLemmas.{refusal_comes}
 use Rattle.capi.proofs.ServedLemmas.{too_large_in, unsent_in}
 use Rattle.capi.specs.ZoneTransfer.{IsNextIn, IsServed}
 use Rattle.capi.specs.ZoneTransfer.IsServed.{malformed, misplaced, sent, silent}

@@ -1,0 +1,15 @@
+pub mod Applied
+pub mod Asked
+pub mod Header
+pub mod Message
+pub mod Mnemonic
+pub mod Query
+pub mod Refusals
+pub mod Reply
+pub mod Response
+pub mod Update
+pub mod Walk
+pub mod WalkWhole
+pub mod WireForm
+pub mod ZoneCheck
+pub mod ZoneText
