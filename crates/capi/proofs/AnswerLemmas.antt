@@ -1,6 +1,5 @@
 -- What stands in the caller's buffer.
-use Rattle.std.proofs.Common.{◌∙◌, ◌<◌, ◌≤◌, inl, inr, ap, arith, drop, length, sym, subst, take, Err, List, Ok, Result}
-use Rattle.std.proofs.Common.{ℕ}
+use Rattle.std.proofs.Common.{◌∙◌, ◌<◌, ◌≤◌, inl, inr, ap, arith, drop, length, sym, subst, take, Err, List, Ok, Result, ℕ}
 use Rattle.std.proofs.lemmas.List.{take_at}
 use Rattle.std.specs.Prelude.{Bool, IfOk, Vec, ℤ}
 use Rattle.std.specs.declared.alloc.Global.{Global}
